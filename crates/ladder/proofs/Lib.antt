@@ -1,0 +1,3 @@
+-- The lemmas that crates above may cite.
+pub mod Found
+pub mod Steps

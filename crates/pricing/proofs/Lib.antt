@@ -1,0 +1,4 @@
+pub mod Scans
+pub mod Slopes
+pub mod Walks
+pub mod Bests
