@@ -2,23 +2,22 @@
 use mathlib.Core.Path.{_≡_, refl, sym, ap, _∙_}
 use mathlib.Core.Bool.{Bool, true, false, cond, _&&_}
 use mathlib.Core.List.{List, [], _∷_}
-use Prim.Native.Nat.{ℕ, zero, suc, _+_, _-_, _*_, _<_, _≤_, min}
+use Prim.Native.Nat.{ℕ, zero, suc, _+_, _-_, _*_, _≤_, min}
 use native.Mathlib.Omega.{arith}
 use lib.Dec.{leb, ltb, eqb}
 use lib.ListN.{length}
 use Rattle.std.proofs.shelf.Ways.{tells}
-use Rattle.std.proofs.shelf.Tests.{and-parts, leb-true, cond-true, cond-false}
+use Rattle.std.proofs.shelf.Tests.{and-parts, leb-true}
 use Rattle.std.proofs.shelf.Sums.{sumBy-cons}
 use Rattle.interest.specs.declared.Side.{Side}
 use Rattle.interest.specs.declared.Side.the-variants.{Buy, Sell}
-use Rattle.interest.specs.declared.Class.{Class}
 use Rattle.interest.specs.declared.Limit.{Limit}
 use Rattle.interest.specs.declared.Limit.the-variants.{Market, At}
 use Rattle.interest.specs.Bounds.{priced}
 use Rattle.interest.specs.Sides.{sameSide}
 use Rattle.book.specs.declared.row.Row.{Row}
 use Rattle.book.specs.Rows.{boundedLimit, soundRow, every, held, soundTable}
-use Rattle.book.specs.Ranks.{ofSide, routableClass, canRoute, takesPrice, throughPrice, totalOf, contracts, interestAt, routableAt, interestThrough, routableThrough, rank, rankOf, below, atRank, ranksAt}
+use Rattle.book.specs.Ranks.{ofSide, routableClass, canRoute, takesPrice, throughPrice, totalOf, interestAt, routableAt, interestThrough, routableThrough, rank, rankOf, below, atRank, ranksAt}
 use Rattle.book.proofs.RewriteFacts.{row-sound, table-rows}
 
 pub bounds : (p : ℕ) → priced p ≡ true → (1 ≤ p) × (p ≤ 100000)

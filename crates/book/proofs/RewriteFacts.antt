@@ -1,21 +1,22 @@
 -- A row changed in its place: the table stays sound where the row stays the same interest.
 use mathlib.Core.Path.{_≡_, refl, sym, ap, _∙_}
-use mathlib.Core.Bool.{Bool, true, false, cond, not, _&&_, _||_}
+use mathlib.Core.Bool.{Bool, true, cond, not, _&&_, _||_}
 use mathlib.Core.List.{List, [], _∷_, _++_, map}
-use Prim.Native.Nat.{ℕ, zero, suc, _+_, _-_, _*_, _<_, _≤_, min}
+use Prim.Native.Nat.{ℕ, zero, suc, _+_, _<_, _≤_}
 use native.Mathlib.Omega.{arith}
-use lib.Dec.{leb, ltb, eqb}
+use lib.Dec.{leb, eqb}
 use lib.ListN.{length, take, drop, getD, set}
-use Rattle.std.proofs.shelf.Tests.{and-parts, and-from, leb-true, eqb-true}
+use Rattle.std.proofs.shelf.Tests.{and-parts, leb-true, eqb-true}
 use Rattle.std.proofs.shelf.Sums.{sumBy-cons}
 use Rattle.std.proofs.shelf.Lists.{getD-take, length-take, take-more, take-more-set, drop-set-lt, append-assoc, append-nil, take-all, drop-all, at-drop-more}
-use Rattle.interest.specs.declared.Side.{Side}
 use Rattle.interest.specs.declared.Limit.{Limit}
 use Rattle.interest.specs.Bounds.{sized}
 use Rattle.book.specs.declared.row.Owner.{Owner}
 use Rattle.book.specs.declared.row.Owner.the-variants.{Order, Quote}
 use Rattle.book.specs.declared.row.Row.{Row}
-use Rattle.book.specs.Rows.{held, boundedLimit, soundOwner, soundRow, every, place, placeBy, following, inRowOrder, isOrder, ownedByOrder, isQuoteOf, newNumber, distinctNumbers, belowLimit, belowOffer, bidsBelowOffers, orderOwned, orderCount, soundTable}
+use Rattle.book.specs.declared.book.Book.{Book}
+use Rattle.book.specs.Rows.{held, boundedLimit, soundRow, every, place, following, inRowOrder, isOrder, ownedByOrder, isQuoteOf, newNumber, distinctNumbers, belowLimit, belowOffer, bidsBelowOffers, orderOwned, orderCount, soundTable}
+use Rattle.book.specs.Books.{rowsOf}
 use Rattle.book.specs.Rewrites.{changedAt, tradeRow, routeRow, cancelRow, restRow, SameRow, SameRows}
 
 -- what a sound row holds
@@ -199,3 +200,7 @@ map-passed f at rows d lt e =
     passed-step (map f) at rows d lt
     ∙ ap (λ (r : Row). take at rows ++ (r ∷ map f (drop (at + 1) rows))) e
     ∙ ap (λ (xs : List Row). take at rows ++ xs) (sym (at-drop-more (map f) rows at d lt))
+
+-- a book has at most 128 rows
+pub rows-few : (b : Book) → length (rowsOf b) ≤ 128
+rows-few b = omega (arith, length-take (b .count) (b .rows), b .fits)

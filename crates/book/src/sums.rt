@@ -70,7 +70,7 @@ pub(crate) fn takes(side: Side, price: u32, limit: Limit) -> bool
 }
 
 /// Whether a limit of a side is through a price.
-pub(crate) fn is_through(side: Side, price: u32, limit: Limit) -> bool
+pub fn is_through(side: Side, price: u32, limit: Limit) -> bool
     ensures { λ r. ⌜ r ≡ throughPrice side price limit ⌝ }
 {
     match (side, limit) {
@@ -81,7 +81,7 @@ pub(crate) fn is_through(side: Side, price: u32, limit: Limit) -> bool
 }
 
 /// Whether rows of a class may be routed.
-pub(crate) fn is_routable(class: Class) -> bool
+pub fn is_routable(class: Class) -> bool
     ensures { λ r. ⌜ r ≡ routableClass class ⌝ }
 {
     match class {

@@ -120,8 +120,10 @@ fn send_of(levels: &mut [DepthLevel], side: Side, price: u32, n: u32) -> u32
     n - left
 }
 
-/// A table of levels, of which the first `LEVELS` count.
+/// A table of levels, of which the first `LEVELS` count; the memory stays the caller's.
+/// It has no laws, since a trait with laws cannot be had for a slice: those of a market are `DepthTable`'s.
 pub trait Table {
+    /// All levels of the table, those past the 64th too.
     ghost levels: { Self → List DepthLevel };
 
     fn best_level(&self, side: Side) -> Option<u32>

@@ -5,6 +5,8 @@ use interest::Class;
 use interest::Limit;
 use interest::Refusal;
 use interest::Side;
+use interest::TOP_PRICE;
+use interest::is_price;
 use ladder::EveryCent;
 use ladder::EveryCentLadder;
 use market::Market;
@@ -62,6 +64,22 @@ fn ends(range: Range) -> (u32, u32) {
     (range.low, range.high)
 }
 
+// A bid may be 0, an offer may not.
+fn is_quotable(quotes: Quotes) -> bool {
+    quotes.bid <= TOP_PRICE && is_price(quotes.offer)
+}
+
+fn validity(quotes: Quotes) -> Option<Answer> {
+    if !is_quotable(quotes) {
+        return None;
+    }
+    Some(if is_valid(quotes.bid, quotes.offer) {
+        Answer::Yes
+    } else {
+        Answer::No
+    })
+}
+
 impl Desk {
     pub fn new(heap: std::alloc::Global) -> Desk {
         Desk {
@@ -101,13 +119,9 @@ impl Desk {
                 low,
                 high,
                 close,
-            } => Some(self.price(mode_of(mode), low, high, close)),
-            Call::Ranges { bid, offer } => Some(self.ranges(Quotes { bid, offer })),
-            Call::Valid { bid, offer } => Some(if is_valid(bid, offer) {
-                Answer::Yes
-            } else {
-                Answer::No
-            }),
+            } => self.price(mode_of(mode), low, high, close),
+            Call::Ranges { bid, offer } => self.ranges(Quotes { bid, offer }),
+            Call::Valid { bid, offer } => validity(Quotes { bid, offer }),
             Call::Curve { .. } => None,
             Call::Help => None,
         }
@@ -216,7 +230,10 @@ impl Desk {
         Answer::Rows { rows: 0 }
     }
 
-    fn price(&mut self, mode: Mode, low: u32, high: u32, close: u32) -> Answer {
+    fn price(&mut self, mode: Mode, low: u32, high: u32, close: u32) -> Option<Answer> {
+        if low.max(high).max(close) > TOP_PRICE {
+            return None;
+        }
         let away = FirmSwitch {
             firm: self.firm,
             market: Pair {
@@ -226,16 +243,18 @@ impl Desk {
                 },
             },
         };
-        match choose(&EveryCent, &self.book, &away, mode, low, high, close) {
-            Some(choice) => Answer::Price {
-                price: choice.price,
-                volume: choice.volume,
-                side: choice.unmatched.side(),
-                unmatched: choice.unmatched.contracts(),
-                through: choice.through,
+        Some(
+            match choose(&EveryCent, &self.book, &away, mode, low, high, close) {
+                Some(choice) => Answer::Price {
+                    price: choice.price,
+                    volume: choice.volume,
+                    side: choice.unmatched.side(),
+                    unmatched: choice.unmatched.contracts(),
+                    through: choice.through,
+                },
+                None => Answer::NoPrice,
             },
-            None => Answer::NoPrice,
-        }
+        )
     }
 
     /// What a price comes to.
@@ -252,7 +271,10 @@ impl Desk {
         figures_at(&self.book, &away, mode_of(mode), price)
     }
 
-    fn ranges(&mut self, quotes: Quotes) -> Answer {
+    fn ranges(&mut self, quotes: Quotes) -> Option<Answer> {
+        if !is_quotable(quotes) {
+            return None;
+        }
         let away = Away {
             bid: self.best_price(Side::Buy),
             offer: self.best_price(Side::Sell),
@@ -261,10 +283,10 @@ impl Desk {
             Some(range) => Some(ends(range)),
             None => None,
         };
-        Answer::Ranges {
+        Some(Answer::Ranges {
             quick,
             opening: ends(opening_range(quotes, away)),
             quality: is_quality(quotes),
-        }
+        })
     }
 }

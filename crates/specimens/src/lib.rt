@@ -4,8 +4,7 @@ ghost use Rattle.specimens.specs.Cases.{WorkedCases};
 /// The worked cases follow from the definitions.
 pub fn worked_cases()
     ensures { λ _. ⌜ WorkedCases ⌝ }
-{
-}
+{}
 
 #[cfg(test)]
 mod tests {
@@ -26,10 +25,19 @@ mod tests {
 
     fn add(book: &mut Book, side: Side, class: Class, size: u32, price: u32) {
         let number = book.rows().len() as u32 + 1;
-        let _ = book.add(Order { number, side, limit: Limit::At(price), size, class });
+        let _ = book.add(Order {
+            number,
+            side,
+            limit: Limit::At(price),
+            size,
+            class,
+        });
     }
 
-    const NOBODY: SingleMarket = SingleMarket { bid: None, offer: None };
+    const NOBODY: SingleMarket = SingleMarket {
+        bid: None,
+        offer: None,
+    };
 
     // Price and volume in the range 100 to 110, or none.
     fn told(choice: Option<Choice>) -> Option<(u32, u32)> {
@@ -83,9 +91,27 @@ mod tests {
         add(&mut book, Side::Buy, Class::Routable, 30, 110);
         add(&mut book, Side::Buy, Class::Other, 20, 110);
         add(&mut book, Side::Sell, Class::Other, 40, 105);
-        let some = SingleMarket { bid: None, offer: Some(Entry { price: 103, size: 25 }) };
-        let many = SingleMarket { bid: None, offer: Some(Entry { price: 103, size: 31 }) };
-        check_eq(told(choose(&EveryCent, &book, &some, Mode::Routing, 100, 110, 0)), Some((105, 25)))?;
-        check_eq(told(choose(&EveryCent, &book, &many, Mode::Routing, 100, 110, 0)), None)
+        let some = SingleMarket {
+            bid: None,
+            offer: Some(Entry {
+                price: 103,
+                size: 25,
+            }),
+        };
+        let many = SingleMarket {
+            bid: None,
+            offer: Some(Entry {
+                price: 103,
+                size: 31,
+            }),
+        };
+        check_eq(
+            told(choose(&EveryCent, &book, &some, Mode::Routing, 100, 110, 0)),
+            Some((105, 25)),
+        )?;
+        check_eq(
+            told(choose(&EveryCent, &book, &many, Mode::Routing, 100, 110, 0)),
+            None,
+        )
     }
 }
