@@ -7,7 +7,7 @@ use crate::book::Row;
 use crate::engine::{Auction, Called, Cause, TickAnswer};
 use crate::market::Away;
 use crate::opening::Report;
-use crate::price::{Choice, Mode, Range, View};
+use crate::price::{Choice, Figures, Mode, Range, View};
 use crate::ranges::Tops;
 use crate::rules::{is_valid_width, Class, Ladder, Limit, Side};
 use crate::script::{read_line, Call, Line, LARGEST_NUMBER};
@@ -41,6 +41,7 @@ pub enum Answer {
     Full,
     RowsCleared,
     Price(Option<Choice>),
+    Curve(Vec<Figures>),
     Ranges { quick: Option<Range>, opening: Range, quality: bool },
     Valid(bool),
 }
@@ -103,6 +104,7 @@ impl Player {
                 Ok(Answer::RowsCleared)
             }
             Call::Price { mode, range, close } => self.price(mode, range, close),
+            Call::Curve { mode, range } => Ok(self.curve(mode, range)),
             Call::Ranges { bid, offer } => Ok(self.ranges(bid, offer)),
             Call::Valid { bid, offer } => Ok(Answer::Valid(is_valid_width(bid, offer))),
             of_the_auction => self.play_on_auction(of_the_auction),
@@ -171,6 +173,11 @@ impl Player {
         let choice = view.choose(mode, range);
         audit::choice(&view, mode, range, choice)?;
         Ok(Answer::Price(choice))
+    }
+
+    fn curve(&self, mode: Mode, range: Range) -> Answer {
+        let view = View { rows: &self.rows, away: &self.away, ladder: Ladder::Cent, close: 0 };
+        Answer::Curve(range.prices().map(|price| view.figures(mode, price)).collect())
     }
 
     fn ranges(&self, bid: u64, offer: u64) -> Answer {
@@ -259,6 +266,7 @@ impl fmt::Display for Answer {
             Answer::Full => write!(out, "full"),
             Answer::RowsCleared => write!(out, "rows 0"),
             Answer::Price(choice) => write_price(out, choice.as_ref()),
+            Answer::Curve(lines) => write_curve(out, lines),
             Answer::Ranges { quick, opening, quality } => write_ranges(out, *quick, *opening, *quality),
             Answer::Valid(valid) => write!(out, "{}", yes_or_no(*valid)),
         }
@@ -297,6 +305,24 @@ fn write_price(out: &mut fmt::Formatter, choice: Option<&Choice>) -> fmt::Result
             write!(out, " unmatched {} through {}", choice.unmatched, choice.through)
         }
     }
+}
+
+fn write_curve(out: &mut fmt::Formatter, lines: &[Figures]) -> fmt::Result {
+    write!(out, "  price       buys      sells  better offers  better bids  usable     volume  unmatched")?;
+    for line in lines {
+        let [buys, sells] = line.interest;
+        let [offers, bids] = line.better.map(|count| count.min(LARGEST_NUMBER));
+        let usable = yes_or_no(line.usable);
+        let net = [buys.saturating_sub(line.better[0]), sells.saturating_sub(line.better[1])];
+        let side = match net[0].cmp(&net[1]) {
+            std::cmp::Ordering::Less => " sells",
+            std::cmp::Ordering::Equal => "",
+            std::cmp::Ordering::Greater => " buys",
+        };
+        write!(out, "\n{:>7}{buys:>11}{sells:>11}{offers:>15}{bids:>13}{usable:>8}", line.price)?;
+        write!(out, "{:>11}{:>11}{side}", net[0].min(net[1]), net[0].abs_diff(net[1]))?;
+    }
+    Ok(())
 }
 
 fn write_ranges(

@@ -46,6 +46,15 @@ pub struct Choice {
     pub through: u64,
 }
 
+/// What a price comes to, buys before sells; `better` is what is better away for each of them.
+#[derive(Clone, Copy, Debug)]
+pub struct Figures {
+    pub price: u64,
+    pub interest: [u64; 2],
+    pub better: [u64; 2],
+    pub usable: bool,
+}
+
 /// A usable price with what is left to be filled on each side after routing.
 #[derive(Clone, Copy)]
 struct Candidate {
@@ -109,6 +118,16 @@ impl View<'_> {
             to_fill[side.index()] = total(self.rows, side, |row| row.reaches(price)) - better;
         }
         Some(Candidate { price, to_fill })
+    }
+
+    /// What a price comes to, usable or not.
+    pub fn figures(&self, mode: Mode, price: u64) -> Figures {
+        Figures {
+            price,
+            interest: SIDES.map(|side| total(self.rows, side, |row| row.reaches(price))),
+            better: SIDES.map(|side| self.better_away(side, price)),
+            usable: self.candidate(mode, price).is_some(),
+        }
     }
 
     /// The midpoint of the prices that leave nothing unmatched, put on the ladder.

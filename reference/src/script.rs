@@ -9,6 +9,8 @@ use crate::sharing::{Holder, Rule};
 pub const LARGEST_NUMBER: u64 = 4_294_967_295;
 /// The most rows a `share` line may list.
 pub const MOST_HOLDERS: usize = 128;
+/// The widest range, in cents, that `curve` prints.
+pub const LONGEST_CURVE: u64 = 1_000;
 
 #[derive(Clone, Debug)]
 pub enum Call {
@@ -31,6 +33,7 @@ pub enum Call {
     Row { side: Side, limit: Limit, size: u64, class: Class },
     RowsClear,
     Price { mode: Mode, range: Range, close: u64 },
+    Curve { mode: Mode, range: Range },
     Ranges { bid: u64, offer: u64 },
     Valid { bid: u64, offer: u64 },
 }
@@ -130,6 +133,11 @@ fn read_inspection(words: &[&str]) -> Option<Call> {
             mode: read_mode(mode)?,
             range: Range { low: read_price_or_zero(low)?, high: read_price_or_zero(high)? },
             close: read_price_or_zero(close)?,
+        },
+        ["curve", mode, low, high] => Call::Curve {
+            mode: read_mode(mode)?,
+            range: Some(Range { low: read_number(low)?, high: read_number(high)? })
+                .filter(|range| range.high.saturating_sub(range.low) <= LONGEST_CURVE)?,
         },
         ["ranges", bid, offer] => Call::Ranges { bid: read_price_or_zero(bid)?, offer: read_price(offer)? },
         ["valid", bid, offer] => Call::Valid { bid: read_price_or_zero(bid)?, offer: read_price(offer)? },

@@ -6,7 +6,7 @@ ghost use Rattle.interest.specs.Bounds.{priced};
 ghost use Rattle.interest.specs.declared.Side.{Side as SideOf};
 ghost use Rattle.book.specs.Ranks.{ranksAt};
 ghost use Rattle.book.specs.Books.{rowsOf};
-ghost use Rattle.clearing.specs.Openings.{bySide, sentAt, filledAt, sentOwn, afterPrice, executed, countsLeft, PricedOption};
+ghost use Rattle.clearing.specs.Openings.{bySide, betterThan, sentAt, filledAt, sentOwn, afterPrice, executed, countsLeft, PricedOption};
 use crate::opening::Kind;
 use book::book::Book;
 use filling::fill;
@@ -23,6 +23,17 @@ fn ranks_at(side: Side, price: u32) -> u32
     ensures { λ r. ⌜ r ≡ ranksAt side price ⌝ }
 {
     rank_of(side, Limit::At(price)) + 1
+}
+
+// A step better than the price for a side's rows: buys go to offers below it, sells to bids above it.
+fn better_price(side: Side, price: u32) -> u32
+    requires { ⌜ priced price ≡ true ⌝ }
+    ensures { λ r. ⌜ r ≡ betterThan price side ⌝ }
+{
+    match side {
+        Side::Buy => price - 1,
+        Side::Sell => price + 1,
+    }
 }
 
 // Sends the routable rows that take the price: buys at one price, sells at another.
@@ -62,7 +73,9 @@ fn route_and_fill<R: SharingRule, M: Market>(
     ensures rows { λ _. ⌜ rowsOf (now (book .exit)) ≡ afterPrice (R·SharingRule .shares (now (rule .entry))) (M·ShownMarket .shown (now (market .entry))) price volume (rowsOf (now (book .entry))) ⌝ }
     ensures counts { λ _. ⌜ ((side : SideOf) (q : ℕ) → M·ShownMarket .shown (now (market .exit)) side q ≡ countsLeft (M·ShownMarket .shown (now (market .entry))) (rowsOf (now (book .entry))) (rowsOf (now (book .exit))) side q) ⌝ }
 {
-    send_at(book, price, price - 1, price + 1, market);
+    let buys_at = better_price(Side::Buy, price);
+    let sells_at = better_price(Side::Sell, price);
+    send_at(book, price, buys_at, sells_at, market);
     fill_at(book, price, volume, rule);
     send_at(book, price, price, price, market);
 }

@@ -35,17 +35,17 @@ level-short part k (r ∷ rows) =
 
 module _ (part : Row → Bool) (k : ℕ) (rows : List Row) (i : ℕ) (d : Row) (lt : i < length rows) where
   -- a level has room for each row
-  pub push-takes : (few : length rows ≤ 128) (sound : soundTable rows ≡ true) (old new : List Holding) (answer : Result (Unit {0}) PushError) → standsAt part k (getD rows i d) ≡ true → old ≡ levelAt part k (take i rows)
-      → answer ≡ pushAnswer old (holdingOf (getD rows i d)) → new ≡ cond (isOk answer) (old ++ holdingOf (getD rows i d) ∷ []) old → new ≡ levelAt part k (take (i + 1) rows)
-  push-takes few sound old new answer h eo ea en =
+  pub push-takes : (few : length rows ≤ 128) (sound : soundTable rows ≡ true) (old new : List Holding) (held-now : Holding) (answer : Result (Unit {0}) PushError) → held-now ≡ holdingOf (getD rows i d) → standsAt part k (getD rows i d) ≡ true → old ≡ levelAt part k (take i rows)
+      → answer ≡ pushAnswer old held-now → new ≡ cond (isOk answer) (old ++ held-now ∷ []) old → new ≡ levelAt part k (take (i + 1) rows)
+  push-takes few sound old new held-now answer eh h eo ea en =
       let r = getD rows i d in
       let s = row-sound r (sound-at rows i d sound lt) in
       let some : 1 ≤ r .left = grind (arith, tells) in
       let fits : sized (r .left) ≡ true = and-from (leb 1 (r .left)) _ (le-leb 1 (r .left) some) (le-leb (r .left) 1000000 (omega (arith, s .0, s .2))) in
       let short : length old < 128 = omega (arith, ap length eo, level-short part k (take i rows), length-take-le i rows (omega arith)) in
       let ok : pushAnswer old (holdingOf r) ≡ Ok tt = cond-true (sized (r .left)) _ _ fits ∙ cond-true (ltb (length old) 128) _ _ (lt-ltb (length old) 128 short) in
-      let yes : isOk answer ≡ true = ap (λ (x : Result (Unit {0}) PushError). isOk x) (ea ∙ ok) in
-      en ∙ cond-true (isOk answer) _ _ yes ∙ ap (λ (xs : List Holding). xs ++ holdingOf r ∷ []) eo ∙ sym (level-yes part k rows i d lt h)
+      let yes : isOk answer ≡ true = ap (λ (x : Result (Unit {0}) PushError). isOk x) (ea ∙ ap (pushAnswer old) eh ∙ ok) in
+      en ∙ cond-true (isOk answer) _ _ yes ∙ ap (λ (x : Holding). old ++ x ∷ []) eh ∙ ap (λ (xs : List Holding). xs ++ holdingOf r ∷ []) eo ∙ sym (level-yes part k rows i d lt h)
 
   count-more : atRank part k (take (i + 1) rows) ≡ atRank part k (take i rows) + cond (part (getD rows i d) && eqb (rankOf (getD rows i d)) k) (getD rows i d .left) 0
   count-more = sumBy-more (λ (r : Row). cond (part r && eqb (rankOf r) k) (r .left) 0) rows i d lt

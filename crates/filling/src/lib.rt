@@ -7,10 +7,11 @@ ghost use Rattle.book.specs.declared.row.Row.{Row as RowOf};
 ghost use Rattle.book.specs.Ranks.{ofSide, totalOf, below, atRank};
 ghost use Rattle.book.specs.Books.{rowsOf};
 ghost use Rattle.book.specs.Rewrites.{tradeRow};
-ghost use Rattle.levels.specs.Levels.{levelAt};
+ghost use Rattle.levels.specs.Levels.{holdingOf, levelAt};
 ghost use Rattle.levels.specs.Deals.{deal};
 ghost use Rattle.filling.specs.Fills.{filledRows, gotTraded, InPriority};
 use book::book::Book;
+use book::row::Row;
 use interest::Side;
 use levels::Part;
 use levels::next_rank;
@@ -26,6 +27,15 @@ struct Gathered {
     contracts: u32,
 }
 
+fn holding_of(row: &Row) -> Holding
+    ensures { λ r. ⌜ r ≡ holdingOf (now (row .entry)) ⌝ }
+{
+    Holding {
+        class: row.class,
+        size: row.left,
+    }
+}
+
 // The rows of a side at a rank that have contracts left.
 fn gather(book: &Book, side: Side, at: u32) -> Gathered
     ensures level { λ r. ⌜ holdingsOf (r .level) ≡ levelAt (ofSide side) at (rowsOf (now (book .entry))) ⌝ }
@@ -35,10 +45,7 @@ fn gather(book: &Book, side: Side, at: u32) -> Gathered
     let mut contracts = 0;
     for row in book.rows() {
         if stands_at(Part::All(side), row, at) {
-            let _ = level.push(Holding {
-                class: row.class,
-                size: row.left,
-            });
+            let _ = level.push(holding_of(row));
             contracts += row.left;
         }
     }
@@ -72,6 +79,13 @@ fn fill_level<R: SharingRule>(book: &mut Book, side: Side, at: u32, rest: u32, r
     gathered.contracts
 }
 
+// What a level of so many contracts leaves of the volume.
+fn rest_after(rest: u32, contracts: u32) -> u32
+    ensures { λ r. ⌜ r ≡ rest - contracts ⌝ }
+{
+    rest.saturating_sub(contracts)
+}
+
 /// Fills up to `volume` contracts on a side, best level first, among the rows of a rank better than `upto`.
 pub fn fill<R: SharingRule>(book: &mut Book, side: Side, upto: u32, volume: u32, rule: &R)
     ensures rows { λ _. ⌜ rowsOf (now (book .exit)) ≡ filledRows (R·SharingRule .shares (now (rule .entry))) side upto volume (rowsOf (now (book .entry))) ⌝ }
@@ -84,7 +98,7 @@ pub fn fill<R: SharingRule>(book: &mut Book, side: Side, upto: u32, volume: u32,
     let mut at = next_rank(book.rows(), part, 0, upto);
     while at < upto {
         let contracts = fill_level(book, side, at, rest, rule);
-        rest = rest.saturating_sub(contracts);
+        rest = rest_after(rest, contracts);
         at = next_rank(book.rows(), part, at + 1, upto);
     }
 }

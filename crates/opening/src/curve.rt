@@ -25,7 +25,7 @@ fn print_price(rt: &LibcRuntime, price: u32, figures: Figures) -> io::Result<()>
 }
 
 /// A line for each price from `low` to `high` that is a price, under a line of headings.
-pub fn print_curve(
+pub(crate) fn print_curve(
     rt: &LibcRuntime,
     desk: &mut Desk,
     mode: ModeName,

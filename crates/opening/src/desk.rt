@@ -81,7 +81,7 @@ fn validity(quotes: Quotes) -> Option<Answer> {
 }
 
 impl Desk {
-    pub fn new(heap: std::alloc::Global) -> Desk {
+    pub(crate) fn new(heap: std::alloc::Global) -> Desk {
         Desk {
             firm: true,
             single: SingleMarket {
@@ -94,7 +94,7 @@ impl Desk {
     }
 
     /// The answer to a call; none to a call whose numbers make no sense.
-    pub fn answer(&mut self, call: Call) -> Option<Answer> {
+    pub(crate) fn answer(&mut self, call: Call) -> Option<Answer> {
         match call {
             Call::Away { side, price, size } => Some(self.set_away(side, price, size)),
             Call::Depth { side, price, size } => self.add_level(side, price, size),
@@ -258,7 +258,7 @@ impl Desk {
     }
 
     /// What a price comes to.
-    pub fn figures(&mut self, mode: ModeName, price: u32) -> Option<Figures> {
+    pub(crate) fn figures(&mut self, mode: ModeName, price: u32) -> Option<Figures> {
         let away = FirmSwitch {
             firm: self.firm,
             market: Pair {

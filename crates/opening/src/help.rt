@@ -2,7 +2,7 @@
 use std::io;
 
 /// Prints the calls that are understood.
-pub fn print_help(rt: &LibcRuntime) -> io::Result<()> {
+pub(crate) fn print_help(rt: &LibcRuntime) -> io::Result<()> {
     println!(
         rt,
         "share RULE QUANTITY CLASS SIZE [CLASS SIZE ..]   divide a quantity among the rows of a level"

@@ -54,7 +54,7 @@ pub(crate) fn is(word: &[u8], name: &str) -> bool
 }
 
 /// The side of a market that `bid` or `offer` names.
-pub fn market_side(word: &[u8]) -> Option<Side>
+pub(crate) fn market_side(word: &[u8]) -> Option<Side>
     ensures { λ r. ⌜ r ≡ sideNamed (now (word .entry)) ⌝ }
 {
     if is(word, "bid") {
@@ -67,7 +67,7 @@ pub fn market_side(word: &[u8]) -> Option<Side>
 }
 
 /// The side of an order that `buy` or `sell` names.
-pub fn order_side(word: &[u8]) -> Option<Side>
+pub(crate) fn order_side(word: &[u8]) -> Option<Side>
     ensures { λ r. ⌜ r ≡ orderSideNamed (now (word .entry)) ⌝ }
 {
     if is(word, "buy") {
@@ -80,7 +80,7 @@ pub fn order_side(word: &[u8]) -> Option<Side>
 }
 
 /// The limit that `market` or a number names.
-pub fn limit_named(word: &[u8]) -> Option<Limit>
+pub(crate) fn limit_named(word: &[u8]) -> Option<Limit>
     ensures { λ r. ⌜ r ≡ limitNamed (now (word .entry)) ⌝ }
 {
     if is(word, "market") {
@@ -91,7 +91,7 @@ pub fn limit_named(word: &[u8]) -> Option<Limit>
 }
 
 /// The class that `routable`, `fixed` or `other` names.
-pub fn class_named(word: &[u8]) -> Option<Class>
+pub(crate) fn class_named(word: &[u8]) -> Option<Class>
     ensures { λ r. ⌜ r ≡ classNamed (now (word .entry)) ⌝ }
 {
     if is(word, "routable") {
@@ -106,7 +106,7 @@ pub fn class_named(word: &[u8]) -> Option<Class>
 }
 
 /// The sharing rule that `time` or `prorata` names.
-pub fn rule_named(word: &[u8]) -> Option<RuleName>
+pub(crate) fn rule_named(word: &[u8]) -> Option<RuleName>
     ensures { λ r. ⌜ r ≡ ruleNamed (now (word .entry)) ⌝ }
 {
     if is(word, "time") {
@@ -119,7 +119,7 @@ pub fn rule_named(word: &[u8]) -> Option<RuleName>
 }
 
 /// The kind of opening that `exchange` or `routing` names.
-pub fn mode_named(word: &[u8]) -> Option<ModeName>
+pub(crate) fn mode_named(word: &[u8]) -> Option<ModeName>
     ensures { λ r. ⌜ r ≡ modeNamed (now (word .entry)) ⌝ }
 {
     if is(word, "exchange") {
@@ -132,7 +132,7 @@ pub fn mode_named(word: &[u8]) -> Option<ModeName>
 }
 
 /// What `on` or `off` names.
-pub fn switch_named(word: &[u8]) -> Option<bool>
+pub(crate) fn switch_named(word: &[u8]) -> Option<bool>
     ensures { λ r. ⌜ r ≡ switchNamed (now (word .entry)) ⌝ }
 {
     if is(word, "on") {

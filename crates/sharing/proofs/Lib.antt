@@ -1,6 +1,6 @@
 -- Lemmas that several proofs share.
 mod Pushes
-mod InOrders
+pub mod InOrders
 pub mod Pads
 mod PartFacts
 mod Claims

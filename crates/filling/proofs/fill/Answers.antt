@@ -15,10 +15,10 @@ loop-at-holds g c =
     let w = fill-first (g .R·SharingRule .shares (c .args .rule .now)) (c .args .side) (c .args .upto) (c .args .volume) (rowsOf (c .args .book .now)) _ (c .next-rank-at .ensures .is ∙ ap (nextRank (ofSide (c .args .side)) 0 (c .args .upto)) (c .rows .ensures)) in
     (w .most, w .rows-are, w .rest-is)
 
-turn : (g : given.Over) (c : need.After-next-rank-at-in-loop-at g) → Turned (g .R·SharingRule .shares (c .args .rule .now)) (c .args .side) (c .args .upto) (c .args .volume) (rowsOf (c .args .book .now)) (c .loop-at .at) (rowsOf (c .fill-level-contracts .last .book)) (c .next-rank-at-in-loop-at .result) (c .saturating-sub-rest .result)
+turn : (g : given.Over) (c : need.After-next-rank-at-in-loop-at g) → Turned (g .R·SharingRule .shares (c .args .rule .now)) (c .args .side) (c .args .upto) (c .args .volume) (rowsOf (c .args .book .now)) (c .loop-at .at) (rowsOf (c .fill-level-contracts .last .book)) (c .next-rank-at-in-loop-at .result) (c .rest-after-rest .result)
 turn g c =
-    fill-turn (g .R·SharingRule .shares (c .args .rule .now)) (c .args .side) (c .args .upto) (c .args .volume) (rowsOf (c .args .book .now)) (c .loop-at .at) (c .loop-at .rest) (rowsOf (c .loop-at .book)) (rowsOf (c .fill-level-contracts .last .book)) (c .next-rank-at-in-loop-at .result) (c .saturating-sub-rest .result) (c .fill-level-contracts .result)
-    (c .loop-at-test .taken) (c .loop-at .inv .1) (c .loop-at .inv .2) (c .fill-level-contracts .ensures .rows) (c .fill-level-contracts .ensures .contracts) (c .saturating-sub-rest .ensures)
+    fill-turn (g .R·SharingRule .shares (c .args .rule .now)) (c .args .side) (c .args .upto) (c .args .volume) (rowsOf (c .args .book .now)) (c .loop-at .at) (c .loop-at .rest) (rowsOf (c .loop-at .book)) (rowsOf (c .fill-level-contracts .last .book)) (c .next-rank-at-in-loop-at .result) (c .rest-after-rest .result) (c .fill-level-contracts .result)
+    (c .loop-at-test .taken) (c .loop-at .inv .1) (c .loop-at .inv .2) (c .fill-level-contracts .ensures .rows) (c .fill-level-contracts .ensures .contracts) (c .rest-after-rest .ensures)
     (c .next-rank-at-in-loop-at .ensures .is ∙ ap (nextRank (ofSide (c .args .side)) (c .loop-at .at + 1) (c .args .upto)) (c .rows-in-loop-at .ensures))
 
 pub loop-at-less : need.loop-at-less

@@ -42,7 +42,7 @@ loop-row-again c =
     elim (c .if-stands-at .came) [
       | then-stands-at w ↦
           let h = sym (w .if-stands-at .ensures tt) in (
-            ap holdingsOf (w .level-is) ∙ push-takes part k rows i _ lt (few (c .args .book .now) rows e) (ap soundTable e ∙ c .args .book .now .sound) (holdingsOf (c .loop-row .level)) _ (w .push .result) h (c .loop-row .inv .0) (w .push .ensures .answer) (w .push .ensures .rows),
+            ap holdingsOf (w .level-is) ∙ push-takes part k rows i _ lt (few (c .args .book .now) rows e) (ap soundTable e ∙ c .args .book .now .sound) (holdingsOf (c .loop-row .level)) _ (w .holding-of .result) (w .push .result) (w .holding-of .ensures) h (c .loop-row .inv .0) (w .push .ensures .answer) (w .push .ensures .rows),
             omega (arith, w .contracts-is, c .loop-row .inv .1, count-yes part k rows i _ lt h),
           )
       | else-stands-at w ↦
