@@ -7,3 +7,5 @@ mod scan;
 mod shift;
 pub mod sums;
 pub mod table;
+
+pub use scan::better_of;

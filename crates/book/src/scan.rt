@@ -83,7 +83,7 @@ fn quote_price(row: Row, side: Side) -> u32
 }
 
 /// The better of two prices of a side, 0 being none.
-fn better_of(side: Side, p: u32, q: u32) -> u32
+pub fn better_of(side: Side, p: u32, q: u32) -> u32
     ensures { λ r. ⌜ r ≡ better side p q ⌝ }
 {
     match side {

@@ -15,18 +15,19 @@ use Rattle.interest.specs.declared.Side.the-variants.{Buy, Sell}
 use Rattle.market.specs.Counts.{AsGood}
 use Rattle.book.specs.declared.row.Row.{Row}
 use Rattle.book.specs.Ranks.{ofSide}
-use Rattle.clearing.specs.Reports.{betterShown, bestShown, BestShown}
+use Rattle.book.specs.Reads.{better}
+use Rattle.clearing.specs.Reports.{bestShown, BestShown}
 
 -- of two prices the better stays, and neither is forgotten
-keeps : (side : Side) (a n : ℕ) → 0 < a → (0 < betterShown side a n) × AsGood side (betterShown side a n) a
+keeps : (side : Side) (a n : ℕ) → 0 < a → (0 < better side a n) × AsGood side (better side a n) a
 keeps Buy a n h = (omega arith, omega arith)
 keeps Sell a n h = (grind (arith, tells), grind (arith, tells))
 
-takes : (side : Side) (a n : ℕ) → 0 < n → (0 < betterShown side a n) × AsGood side (betterShown side a n) n
+takes : (side : Side) (a n : ℕ) → 0 < n → (0 < better side a n) × AsGood side (better side a n) n
 takes Buy a n h = (omega arith, omega arith)
 takes Sell a n h = (grind (arith, tells), grind (arith, tells))
 
-one-of : (side : Side) (a n : ℕ) → (betterShown side a n ≡ a) ⊎ (betterShown side a n ≡ n)
+one-of : (side : Side) (a n : ℕ) → (better side a n ≡ a) ⊎ (better side a n ≡ n)
 one-of Buy a n = elim (cases-lt a n) [ inl lt ↦ inr (omega arith) | inr le ↦ inl (omega arith) ]
 one-of Sell a n =
     elim (cases-bool (eqb a 0)) [
@@ -43,13 +44,13 @@ good-then Sell x y z h k = omega arith
 
 -- the best of a price and those of the rows
 abbrev best-from : Side → ℕ → List Row → ℕ
-best-from side a rows = folded (λ (b : ℕ) (r : Row). betterShown side b (cond (ofSide side r) (r .shown) 0)) a rows
+best-from side a rows = folded (λ (b : ℕ) (r : Row). better side b (cond (ofSide side r) (r .shown) 0)) a rows
 
 from-keeps : (side : Side) (a : ℕ) (rows : List Row) → 0 < a → (0 < best-from side a rows) × AsGood side (best-from side a rows) a
 from-keeps Buy a [] h = (h, omega arith)
 from-keeps Sell a [] h = (h, omega arith)
 from-keeps side a (r ∷ rows) h =
-    let b = betterShown side a (cond (ofSide side r) (r .shown) 0) in
+    let b = better side a (cond (ofSide side r) (r .shown) 0) in
     let k = keeps side a (cond (ofSide side r) (r .shown) 0) h in
     let w = from-keeps side b rows (k .0) in
     (w .0, good-then side (best-from side b rows) b a (w .1) (k .1))
@@ -58,13 +59,13 @@ from-covers : (side : Side) (a : ℕ) (rows : List Row) (i : ℕ) (d : Row) → 
 from-covers side a [] i d lt h some = absurd (omega arith)
 from-covers side a (r ∷ rows) zero d lt h some =
     let n = cond (ofSide side r) (r .shown) 0 in
-    let b = betterShown side a n in
+    let b = better side a n in
     let e : n ≡ r .shown = cond-true (ofSide side r) (r .shown) 0 h in
     let t = takes side a n (omega arith) in
     let w = from-keeps side b rows (t .0) in
     let good : AsGood side (best-from side b rows) n = good-then side (best-from side b rows) b n (w .1) (t .1) in
     (w .0, subst (λ (x : ℕ). AsGood side (best-from side b rows) x) e good)
-from-covers side a (r ∷ rows) (suc i) d lt h some = from-covers side (betterShown side a (cond (ofSide side r) (r .shown) 0)) rows i d (omega arith) h some
+from-covers side a (r ∷ rows) (suc i) d lt h some = from-covers side (better side a (cond (ofSide side r) (r .shown) 0)) rows i d (omega arith) h some
 
 abbrev Found : Side → List Row → ℕ → Type 0
 Found side rows q = (i : ℕ) × (i < length rows) × ((d : Row) → (ofSide side (getD rows i d) ≡ true) × (getD rows i d .shown ≡ q))
@@ -73,7 +74,7 @@ from-one : (side : Side) (a : ℕ) (rows : List Row) → 0 < best-from side a ro
 from-one side a [] some = inl refl
 from-one side a (r ∷ rows) some =
     let n = cond (ofSide side r) (r .shown) 0 in
-    let b = betterShown side a n in
+    let b = better side a n in
     elim (from-one side b rows some) [
       | inl e ↦ elim (one-of side a n) [
         | inl f ↦ inl (e ∙ f)

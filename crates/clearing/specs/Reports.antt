@@ -2,8 +2,7 @@
 use mathlib.Core.Path.{_≡_}
 use mathlib.Core.Bool.{true, cond}
 use mathlib.Core.List.{List}
-use Prim.Native.Nat.{ℕ, min, max, _<_}
-use lib.Dec.{eqb}
+use Prim.Native.Nat.{ℕ, _<_}
 use lib.ListN.{length, getD}
 use Rattle.std.specs.Iters.{folded}
 use Rattle.std.specs.declared.option.Option.{Option}
@@ -13,19 +12,15 @@ use Rattle.interest.specs.declared.Side.the-variants.{Buy, Sell}
 use Rattle.market.specs.Counts.{AsGood}
 use Rattle.book.specs.declared.row.Row.{Row}
 use Rattle.book.specs.Ranks.{ofSide}
+use Rattle.book.specs.Reads.{better}
 use Rattle.clearing.specs.declared.opening.Opening.{Opening}
 use Rattle.clearing.specs.declared.opening.SideReport.{SideReport}
 use Rattle.clearing.specs.declared.opening.Report.{Report}
 use Rattle.clearing.specs.Openings.{routedOn, cancelledOn}
 
--- the better of two shown prices, where 0 is none
-abbrev pub betterShown : Side → ℕ → ℕ → ℕ
-betterShown Buy a b = max a b
-betterShown Sell a b = cond (eqb a 0) b (cond (eqb b 0) a (min a b))
-
 -- the best price shown by the rows of a side, 0 for none
 abbrev pub bestShown : Side → List Row → ℕ
-bestShown side rows = folded (λ (a : ℕ) (r : Row). betterShown side a (cond (ofSide side r) (r .shown) 0)) 0 rows
+bestShown side rows = folded (λ (a : ℕ) (r : Row). better side a (cond (ofSide side r) (r .shown) 0)) 0 rows
 
 abbrev pub sideReport : Side → List Row → SideReport
 sideReport side rows = record { routed = routedOn side rows; cancelled = cancelledOn side rows; best = bestShown side rows }

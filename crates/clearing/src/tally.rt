@@ -2,28 +2,11 @@
 ghost use mathlib.Core.Path.{_≡_};
 ghost use mathlib.Core.Bool.{cond};
 ghost use Rattle.book.specs.Books.{rowsOf};
-ghost use Rattle.clearing.specs.Reports.{betterShown, sideReport};
+ghost use Rattle.clearing.specs.Reports.{sideReport};
 use crate::opening::SideReport;
+use book::better_of;
 use book::book::Book;
 use interest::Side;
-
-// The better of two shown prices, where 0 is none.
-fn better_shown(side: Side, a: u32, b: u32) -> u32
-    ensures { λ r. ⌜ r ≡ betterShown side a b ⌝ }
-{
-    match side {
-        Side::Buy => a.max(b),
-        Side::Sell => {
-            if a == 0 {
-                b
-            } else if b == 0 {
-                a
-            } else {
-                a.min(b)
-            }
-        }
-    }
-}
 
 fn counted(of_side: bool, n: u32) -> u32
     ensures { λ r. ⌜ r ≡ cond «of_side» n 0 ⌝ }
@@ -41,7 +24,7 @@ pub(crate) fn tally(book: &Book, side: Side) -> SideReport
         let of_side = row.side.is(side);
         routed += counted(of_side, row.routed);
         cancelled += counted(of_side, row.cancelled);
-        best = better_shown(side, best, counted(of_side, row.shown));
+        best = better_of(side, best, counted(of_side, row.shown));
     }
     SideReport {
         routed,

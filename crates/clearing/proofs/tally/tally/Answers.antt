@@ -16,7 +16,8 @@ use Rattle.book.specs.Books.{rowsOf}
 use Rattle.book.proofs.RewriteFacts.{table-rows, rows-few}
 use Rattle.book.proofs.RankFacts.{total-le}
 use Rattle.clearing.specs.Openings.{routedOn, cancelledOn}
-use Rattle.clearing.specs.Reports.{betterShown, bestShown}
+use Rattle.book.specs.Reads.{better}
+use Rattle.clearing.specs.Reports.{bestShown}
 use Rattle.clearing.proofs.tally.tally.Needs as need
 
 -- one row more
@@ -29,11 +30,11 @@ small : (f : Row → ℕ) → ((r : Row) → f r ≤ held r) → (side : Side) (
 small f part side b rows i e =
     omega (arith, sumBy-take-le (λ r. cond (ofSide side r) (f r) 0) rows i, ap (totalOf f (ofSide side)) e, total-le f part (ofSide side) (rowsOf b) (table-rows (rowsOf b) (b .sound)), rows-few b)
 
-best-more : (side : Side) (rows : List Row) (i : ℕ) (d : Row) (b : Bool) (n x y : ℕ) → i < length rows → b ≡ ofSide side (getD rows i d) → n ≡ cond b (getD rows i d .shown) 0 → x ≡ bestShown side (take i rows) → y ≡ betterShown side x n → y ≡ bestShown side (take (i + 1) rows)
+best-more : (side : Side) (rows : List Row) (i : ℕ) (d : Row) (b : Bool) (n x y : ℕ) → i < length rows → b ≡ ofSide side (getD rows i d) → n ≡ cond b (getD rows i d .shown) 0 → x ≡ bestShown side (take i rows) → y ≡ better side x n → y ≡ bestShown side (take (i + 1) rows)
 best-more side rows i d b n x y lt eb en ex ey =
     let e : n ≡ cond (ofSide side (getD rows i d)) (getD rows i d .shown) 0 = en ∙ ap (λ (z : Bool). cond z (getD rows i d .shown) 0) eb in
-    ey ∙ ap (λ (z : ℕ). betterShown side z n) ex ∙ ap (betterShown side (bestShown side (take i rows))) e
-    ∙ sym (folded-more (λ (a : ℕ) (r : Row). betterShown side a (cond (ofSide side r) (r .shown) 0)) 0 rows i d lt)
+    ey ∙ ap (λ (z : ℕ). better side z n) ex ∙ ap (better side (bestShown side (take i rows))) e
+    ∙ sym (folded-more (λ (a : ℕ) (r : Row). better side a (cond (ofSide side r) (r .shown) 0)) 0 rows i d lt)
 
 pub loop-row-holds : need.loop-row-holds
 loop-row-holds c = (refl, refl, refl)
@@ -61,7 +62,7 @@ loop-row-again c =
     let lt = c .loop-row-test .taken in (
       more (λ (r : Row). r .routed) (c .args .side) rows i _ (c .is-of-side .result) (c .counted-routed .result) (c .loop-row .routed) lt (c .is-of-side .ensures) (c .counted-routed .ensures) (c .loop-row .inv .0),
       more (λ (r : Row). r .cancelled) (c .args .side) rows i _ (c .is-of-side .result) (c .counted-cancelled .result) (c .loop-row .cancelled) lt (c .is-of-side .ensures) (c .counted-cancelled .ensures) (c .loop-row .inv .1),
-      best-more (c .args .side) rows i _ (c .is-of-side .result) (c .counted .result) (c .loop-row .best) (c .better-shown-best .result) lt (c .is-of-side .ensures) (c .counted .ensures) (c .loop-row .inv .2) (c .better-shown-best .ensures),
+      best-more (c .args .side) rows i _ (c .is-of-side .result) (c .counted .result) (c .loop-row .best) (c .better-of-best .result) lt (c .is-of-side .ensures) (c .counted .ensures) (c .loop-row .inv .2) (c .better-of-best .ensures),
     )
 
 pub returns : need.returns
