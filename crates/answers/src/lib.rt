@@ -1,4 +1,6 @@
 //! The line of text that answers a call of the auction.
+#![tactic(auto)]
+
 use std::fmt;
 
 /// What a call of the auction is answered.

@@ -1,4 +1,6 @@
 //! The opening auction of a series: members enter, makers quote, and a tick at a time it finds its price and opens.
+#![tactic(auto)]
+
 pub mod auction;
 mod entering;
 mod making;

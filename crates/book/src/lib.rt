@@ -1,4 +1,6 @@
 //! The table of rows of a series: its orders as accepted, then the sides of its quotes by maker.
+#![tactic(auto)]
+
 pub mod book;
 pub mod reads;
 pub mod rewrite;

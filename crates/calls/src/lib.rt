@@ -1,4 +1,6 @@
 //! The calls of the auction, the first word being the call's name.
+#![tactic(auto)]
+
 pub mod lines;
 
 ghost use Rattle.std.specs.Prelude.{◌≡◌, map};

@@ -1,4 +1,6 @@
 //! Ladders and sharing rules by their names: one type for all of them, so that an auction over any is of one type too.
+#![tactic(auto)]
+
 ghost use Rattle.choices.specs.Choices.{permitted_by, shares_by};
 ghost use Rattle.std.proofs.Common.{rules};
 ghost use Rattle.choices.specs.RuleByNameLemmas.{each-by, within_by, whole_by};

@@ -1,4 +1,6 @@
 //! Clearing: what an opening does to the book and to the away market.
+#![tactic(auto)]
+
 pub mod carry;
 pub mod opening;
 mod steps;

@@ -1,4 +1,6 @@
 //! Filling: a volume handed to the rows of one side, best level first; a level filled in part is shared.
+#![tactic(auto)]
+
 ghost use Rattle.std.specs.Prelude.{◌≡◌, ℕ, ◌+◌, ◌-◌, ◌<◌, min, length};
 ghost use Rattle.sharing.specs.Levels.{rows_of as holdings_of};
 ghost use Rattle.book.specs.declared.row.Row.{Row as RowOf};

@@ -1,4 +1,6 @@
 //! The plain words that every crate shares: sides, classes, limits, bounds and refusals.
+#![tactic(auto)]
+
 ghost use Rattle.std.specs.Prelude.{◌≡◌};
 ghost use Rattle.interest.specs.Bounds.{priced, sized, maker_numbered};
 ghost use Rattle.interest.specs.Sides.{opposite, same_side};

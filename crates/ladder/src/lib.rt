@@ -1,4 +1,6 @@
 //! Ladders: the prices that interest may have, 100,000 among them.
+#![tactic(auto)]
+
 ghost use Rattle.std.specs.Prelude.{◌≡◌, ℕ, ◌≤◌, Bool, true, if◌then◌else◌, Some, None};
 ghost use Rattle.interest.specs.Bounds.{priced};
 ghost use Rattle.ladder.specs.Rungs.{least_at_or_above, greatest_at_or_below, Least, Greatest, stepped};

@@ -1,4 +1,6 @@
 //! The price levels of a book: the rows of one side with one limit, or all its market rows, best level first.
+#![tactic(auto)]
+
 ghost use Rattle.std.specs.Prelude.{◌≡◌, if◌then◌else◌, nat_lt};
 ghost use Rattle.book.specs.Ranks.{rank, rank_of};
 ghost use Rattle.levels.specs.Levels.{part_of, stands_at, stands_below, next_rank, NextRank};

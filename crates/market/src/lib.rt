@@ -1,5 +1,7 @@
 //! Markets: what is shown on each side at each price, and what a send takes of it.
 //! Bids are a market's buy side, offers its sell side.
+#![tactic(auto)]
+
 ghost use Rattle.std.specs.Prelude.{◌≡◌, ℕ, ◌-◌, ◌≤◌};
 ghost use Rattle.interest.specs.Sides.{opposite};
 ghost use Rattle.interest.specs.declared.Side.{Side};

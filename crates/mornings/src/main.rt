@@ -1,4 +1,6 @@
 //! Plays a script: one call a line from standard input, and an answer to each.
+#![tactic(auto)]
+
 mod curve;
 mod desk;
 mod floor;

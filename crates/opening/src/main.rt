@@ -1,4 +1,6 @@
 //! Plays a script: one call a line from standard input, one line of answer for each.
+#![tactic(auto)]
+
 mod curve;
 mod desk;
 mod help;

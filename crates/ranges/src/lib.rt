@@ -1,4 +1,6 @@
 //! The bands of bids with their widths, and the ranges in which an opening price is looked for.
+#![tactic(auto)]
+
 ghost use Rattle.std.specs.Prelude.{◌≡◌, ℕ, ◌≤◌, true, false};
 ghost use Rattle.interest.specs.Bounds.{priced};
 ghost use Rattle.ranges.specs.Bands.{band_table, band_of, LastReached, NoNarrower, valid_quote, quality_market};

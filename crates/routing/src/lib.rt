@@ -1,4 +1,6 @@
 //! Routing: contracts of routable rows sent to the away market, best level first, row order within.
+#![tactic(auto)]
+
 ghost use Rattle.std.specs.Prelude.{◌≡◌, ℕ, ◌+◌, ◌-◌, min};
 ghost use Rattle.interest.specs.Sides.{opposite};
 ghost use Rattle.book.specs.declared.row.Row.{Row as RowOf};

@@ -1,4 +1,6 @@
 //! Scripts: a line of text to a call, and an answer to a line of text.
+#![tactic(auto)]
+
 pub mod answers;
 pub mod calls;
 pub mod lines;

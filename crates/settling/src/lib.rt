@@ -1,4 +1,6 @@
 //! Settling: what filling and routing leave is cancelled, or rests.
+#![tactic(auto)]
+
 ghost use Rattle.std.specs.Prelude.{◌≡◌, ◌≤◌, map};
 ghost use Rattle.market.specs.Counts.{best_of};
 ghost use Rattle.book.specs.Ranks.{takes_price, through_price};

@@ -1,4 +1,6 @@
 //! How a quantity of contracts is shared among the rows of a price level.
+#![tactic(auto)]
+
 mod among;
 mod fills;
 pub mod level;

@@ -1,4 +1,6 @@
 //! Worked cases of the rules: facts about the definitions that the contracts cite, and the same cases as tests of the code.
+#![tactic(auto)]
+
 ghost use Rattle.specimens.specs.Cases.{WorkedCases};
 
 /// The worked cases follow from the definitions.

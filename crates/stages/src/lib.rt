@@ -1,4 +1,6 @@
 //! The stages of an opening auction: its settings, the reasons to wait, and what the rules find when a tick comes.
+#![tactic(auto)]
+
 pub mod decisions;
 pub mod messages;
 pub mod openings;
