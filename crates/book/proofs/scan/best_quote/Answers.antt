@@ -12,7 +12,7 @@ loop-row-preserved c =
     let side = c.args.side in
     let rows = c.args.rows.now in
     let rest = best_quote side (drop (c.loop-row.row-index + 1) rows) in
-    ap (λ (p : ℕ). better side p rest) (c.better-of-best.ensures ∙ ap (better side c.loop-row.best) c.quote-price.ensures)
+    ap (λ (p : ℕ). better side p rest) (c.better_of-best.ensures ∙ ap (better side c.loop-row.best) c.quote_price.ensures)
     ∙ better-assoc side c.loop-row.best _ rest
     ∙ ap (better side c.loop-row.best) (sym (at_drop_more (best_quote side) rows c.loop-row.row-index _ c.loop-row-test.true))
     ∙ c.loop-row.invariant

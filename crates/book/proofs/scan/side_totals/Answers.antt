@@ -10,15 +10,15 @@ use Rattle.book.proofs.scan.side_totals.Goals.{then_is, else_is}
 
 pub loop-row-preserved : goal.loop-row-preserved
 loop-row-preserved c = elim c.if-is.branch [
-  | then_is w ↦ w.totals-is ∙ w.with-row-totals.ensures ∙ totals-yes c.args.side c.args.rows.now c.loop-row.row-index _ c.loop-row-test.true c.loop-row.totals c.loop-row.invariant (sym w.if-is.ensures)
+  | then_is w ↦ w.totals-is ∙ w.with_row-totals.ensures ∙ totals-yes c.args.side c.args.rows.now c.loop-row.row-index _ c.loop-row-test.true c.loop-row.totals c.loop-row.invariant (sym w.if-is.ensures)
   | else_is w ↦ w.totals-is ∙ totals-no c.args.side c.args.rows.now c.loop-row.row-index _ c.loop-row-test.true c.loop-row.totals c.loop-row.invariant (sym w.if-is.ensures)
 ]
 
 pub returns : goal.returns
 returns c = c.loop-row.invariant ∙ ap (totals_of c.args.side) (take_all c.loop-row.row-index c.args.rows.now c.loop-row-test.false)
 
-pub with-row-totals-requires : goal.with-row-totals-requires
-with-row-totals-requires c =
+pub with_row-totals-requires : goal.with_row-totals-requires
+with_row-totals-requires c =
     let rows = c.args.rows.now in
     let front = take c.loop-row.row-index rows in
     let good = every_take sound_row c.loop-row.row-index rows c.requires.sound in

@@ -5,24 +5,24 @@ use Rattle.book.specs.Ranks.{of_side, can_route, takes_price, interest_at, routa
 use Rattle.book.proofs.SumFacts.{contracts-bound, routable-at-part, turn, turn-fits}
 use Rattle.book.proofs.sums.depth_of.Goals as goal
 
-pub overflow-add-buys : goal.overflow-add-buys
-overflow-add-buys c = omega (arith, turn-fits (λ r. of_side Buy r && takes_price Buy c.args.price r.limit) _ _ _ _ _ _ c.requires.sound c.requires.fits c.loop-row-test.true c.loop-row.invariant.0 (simp (c.is-buy.ensures, c.takes-buys-it.ensures)) c.size-if-buys.ensures)
+pub overflow_add-buys : goal.overflow_add-buys
+overflow_add-buys c = omega (arith, turn-fits (λ r. of_side Buy r && takes_price Buy c.args.price r.limit) _ _ _ _ _ _ c.requires.sound c.requires.fits c.loop-row-test.true c.loop-row.invariant.0 (simp (c.is-buy.ensures, c.takes-buys_it.ensures)) c.size_if-buys.ensures)
 
-pub overflow-add-sells : goal.overflow-add-sells
-overflow-add-sells c = omega (arith, turn-fits (λ r. of_side Sell r && takes_price Sell c.args.price r.limit) _ _ _ _ _ _ c.requires.sound c.requires.fits c.loop-row-test.true c.loop-row.invariant.1 (simp (c.is-sell.ensures, c.takes-sells-it.ensures)) c.size-if-sells.ensures)
+pub overflow_add-sells : goal.overflow_add-sells
+overflow_add-sells c = omega (arith, turn-fits (λ r. of_side Sell r && takes_price Sell c.args.price r.limit) _ _ _ _ _ _ c.requires.sound c.requires.fits c.loop-row-test.true c.loop-row.invariant.1 (simp (c.is-sell.ensures, c.takes-sells_it.ensures)) c.size_if-sells.ensures)
 
-pub overflow-add-routable-buys : goal.overflow-add-routable-buys
-overflow-add-routable-buys c = omega (arith, turn-fits (λ r. can_route Buy r && takes_price Buy c.args.price r.limit) _ _ _ _ _ _ c.requires.sound c.requires.fits c.loop-row-test.true c.loop-row.invariant.2 (simp (c.is-buy.ensures, c.is-routable-routable.ensures, c.takes-buys-it.ensures)) c.size-if-routable-buys.ensures)
+pub overflow_add-routable_buys : goal.overflow_add-routable_buys
+overflow_add-routable_buys c = omega (arith, turn-fits (λ r. can_route Buy r && takes_price Buy c.args.price r.limit) _ _ _ _ _ _ c.requires.sound c.requires.fits c.loop-row-test.true c.loop-row.invariant.2 (simp (c.is-buy.ensures, c.is_routable-routable.ensures, c.takes-buys_it.ensures)) c.size_if-routable_buys.ensures)
 
-pub overflow-add-routable-sells : goal.overflow-add-routable-sells
-overflow-add-routable-sells c = omega (arith, turn-fits (λ r. can_route Sell r && takes_price Sell c.args.price r.limit) _ _ _ _ _ _ c.requires.sound c.requires.fits c.loop-row-test.true c.loop-row.invariant.3 (simp (c.is-sell.ensures, c.is-routable-routable.ensures, c.takes-sells-it.ensures)) c.size-if-routable-sells.ensures)
+pub overflow_add-routable_sells : goal.overflow_add-routable_sells
+overflow_add-routable_sells c = omega (arith, turn-fits (λ r. can_route Sell r && takes_price Sell c.args.price r.limit) _ _ _ _ _ _ c.requires.sound c.requires.fits c.loop-row-test.true c.loop-row.invariant.3 (simp (c.is-sell.ensures, c.is_routable-routable.ensures, c.takes-sells_it.ensures)) c.size_if-routable_sells.ensures)
 
 pub loop-row-preserved : goal.loop-row-preserved
 loop-row-preserved c = (
-  turn (λ r. of_side Buy r && takes_price Buy c.args.price r.limit) _ _ _ _ _ _ c.loop-row-test.true c.loop-row.invariant.0 (simp (c.is-buy.ensures, c.takes-buys-it.ensures)) c.size-if-buys.ensures,
-  turn (λ r. of_side Sell r && takes_price Sell c.args.price r.limit) _ _ _ _ _ _ c.loop-row-test.true c.loop-row.invariant.1 (simp (c.is-sell.ensures, c.takes-sells-it.ensures)) c.size-if-sells.ensures,
-  turn (λ r. can_route Buy r && takes_price Buy c.args.price r.limit) _ _ _ _ _ _ c.loop-row-test.true c.loop-row.invariant.2 (simp (c.is-buy.ensures, c.is-routable-routable.ensures, c.takes-buys-it.ensures)) c.size-if-routable-buys.ensures,
-  turn (λ r. can_route Sell r && takes_price Sell c.args.price r.limit) _ _ _ _ _ _ c.loop-row-test.true c.loop-row.invariant.3 (simp (c.is-sell.ensures, c.is-routable-routable.ensures, c.takes-sells-it.ensures)) c.size-if-routable-sells.ensures,
+  turn (λ r. of_side Buy r && takes_price Buy c.args.price r.limit) _ _ _ _ _ _ c.loop-row-test.true c.loop-row.invariant.0 (simp (c.is-buy.ensures, c.takes-buys_it.ensures)) c.size_if-buys.ensures,
+  turn (λ r. of_side Sell r && takes_price Sell c.args.price r.limit) _ _ _ _ _ _ c.loop-row-test.true c.loop-row.invariant.1 (simp (c.is-sell.ensures, c.takes-sells_it.ensures)) c.size_if-sells.ensures,
+  turn (λ r. can_route Buy r && takes_price Buy c.args.price r.limit) _ _ _ _ _ _ c.loop-row-test.true c.loop-row.invariant.2 (simp (c.is-buy.ensures, c.is_routable-routable.ensures, c.takes-buys_it.ensures)) c.size_if-routable_buys.ensures,
+  turn (λ r. can_route Sell r && takes_price Sell c.args.price r.limit) _ _ _ _ _ _ c.loop-row-test.true c.loop-row.invariant.3 (simp (c.is-sell.ensures, c.is_routable-routable.ensures, c.takes-sells_it.ensures)) c.size_if-routable_sells.ensures,
   omega arith,
 )
 
@@ -37,8 +37,8 @@ returns c =
     let routable-sells = c.loop-row.invariant.3 ∙ ap (routable_at Sell p) whole in
     record {
       is = λ j. record { buys = buys j; sells = sells j; routable_buys = routable-buys j; routable_sells = routable-sells j };
-      few-buys = omega (arith, buys, contracts-bound (λ r. of_side Buy r && takes_price Buy p r.limit) rows c.requires.sound c.requires.fits);
-      few-sells = omega (arith, sells, contracts-bound (λ r. of_side Sell r && takes_price Sell p r.limit) rows c.requires.sound c.requires.fits);
-      routable-buys = omega (arith, buys, routable-buys, routable-at-part Buy p rows);
-      routable-sells = omega (arith, sells, routable-sells, routable-at-part Sell p rows);
+      few_buys = omega (arith, buys, contracts-bound (λ r. of_side Buy r && takes_price Buy p r.limit) rows c.requires.sound c.requires.fits);
+      few_sells = omega (arith, sells, contracts-bound (λ r. of_side Sell r && takes_price Sell p r.limit) rows c.requires.sound c.requires.fits);
+      routable_buys = omega (arith, buys, routable-buys, routable-at-part Buy p rows);
+      routable_sells = omega (arith, sells, routable-sells, routable-at-part Sell p rows);
     }

@@ -8,6 +8,6 @@ abbrev pub invariant-loop-row : goal.invariant-loop-row
 invariant-loop-row l =
     (l.buys ≡ interest_at Buy l.price (take l.row-index l.rows))
     × (l.sells ≡ interest_at Sell l.price (take l.row-index l.rows))
-    × (l.routable-buys ≡ routable_at Buy l.price (take l.row-index l.rows))
-    × (l.routable-sells ≡ routable_at Sell l.price (take l.row-index l.rows))
+    × (l.routable_buys ≡ routable_at Buy l.price (take l.row-index l.rows))
+    × (l.routable_sells ≡ routable_at Sell l.price (take l.row-index l.rows))
     × (l.row-index ≤ length l.rows)

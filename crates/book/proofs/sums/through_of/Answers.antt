@@ -4,16 +4,16 @@ use Rattle.book.specs.Ranks.{of_side, can_route, through_price, interest_through
 use Rattle.book.proofs.SumFacts.{contracts-bound, routable-through-part, turn, turn-fits}
 use Rattle.book.proofs.sums.through_of.Goals as goal
 
-pub overflow-add-contracts : goal.overflow-add-contracts
-overflow-add-contracts c = omega (arith, turn-fits (λ r. of_side c.args.side r && through_price c.args.side c.args.price r.limit) _ _ _ _ _ _ c.requires.sound c.requires.fits c.loop-row-test.true c.loop-row.invariant.0 (simp (c.is-own.ensures, c.is-through-through.ensures)) c.size-if-contracts.ensures)
+pub overflow_add-contracts : goal.overflow_add-contracts
+overflow_add-contracts c = omega (arith, turn-fits (λ r. of_side c.args.side r && through_price c.args.side c.args.price r.limit) _ _ _ _ _ _ c.requires.sound c.requires.fits c.loop-row-test.true c.loop-row.invariant.0 (simp (c.is-own.ensures, c.is_through-through.ensures)) c.size_if-contracts.ensures)
 
-pub overflow-add-routable : goal.overflow-add-routable
-overflow-add-routable c = omega (arith, turn-fits (λ r. can_route c.args.side r && through_price c.args.side c.args.price r.limit) _ _ _ _ _ _ c.requires.sound c.requires.fits c.loop-row-test.true c.loop-row.invariant.1 (simp (c.is-own.ensures, c.is-routable-can-route.ensures, c.is-through-through.ensures)) c.size-if-routable.ensures)
+pub overflow_add-routable : goal.overflow_add-routable
+overflow_add-routable c = omega (arith, turn-fits (λ r. can_route c.args.side r && through_price c.args.side c.args.price r.limit) _ _ _ _ _ _ c.requires.sound c.requires.fits c.loop-row-test.true c.loop-row.invariant.1 (simp (c.is-own.ensures, c.is_routable-can_route.ensures, c.is_through-through.ensures)) c.size_if-routable.ensures)
 
 pub loop-row-preserved : goal.loop-row-preserved
 loop-row-preserved c = (
-  turn (λ r. of_side c.args.side r && through_price c.args.side c.args.price r.limit) _ _ _ _ _ _ c.loop-row-test.true c.loop-row.invariant.0 (simp (c.is-own.ensures, c.is-through-through.ensures)) c.size-if-contracts.ensures,
-  turn (λ r. can_route c.args.side r && through_price c.args.side c.args.price r.limit) _ _ _ _ _ _ c.loop-row-test.true c.loop-row.invariant.1 (simp (c.is-own.ensures, c.is-routable-can-route.ensures, c.is-through-through.ensures)) c.size-if-routable.ensures,
+  turn (λ r. of_side c.args.side r && through_price c.args.side c.args.price r.limit) _ _ _ _ _ _ c.loop-row-test.true c.loop-row.invariant.0 (simp (c.is-own.ensures, c.is_through-through.ensures)) c.size_if-contracts.ensures,
+  turn (λ r. can_route c.args.side r && through_price c.args.side c.args.price r.limit) _ _ _ _ _ _ c.loop-row-test.true c.loop-row.invariant.1 (simp (c.is-own.ensures, c.is_routable-can_route.ensures, c.is_through-through.ensures)) c.size_if-routable.ensures,
   omega arith,
 )
 

@@ -10,7 +10,7 @@ loop-i-preserved c =
     let i = c.loop-i.i in
     let here : i < length rows = omega arith in
     let there : i < length c.loop-i.sizes = omega arith in
-    take_more_set c.loop-i.sizes i c.size-of.result there ∙ ap₂ (λ a (b : ℕ). a ++ b ∷ []) c.loop-i.invariant c.size-of.ensures ∙ sym (map_more (size_among c.args.among) rows i _ here)
+    take_more_set c.loop-i.sizes i c.size_of.result there ∙ ap₂ (λ a (b : ℕ). a ++ b ∷ []) c.loop-i.invariant c.size_of.ensures ∙ sym (map_more (size_among c.args.among) rows i _ here)
 
 pub returns : goal.returns
 returns c =

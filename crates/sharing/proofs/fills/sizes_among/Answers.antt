@@ -6,6 +6,6 @@ use Rattle.sharing.proofs.fills.sizes_among.Goals as goal
 
 pub returns : goal.returns
 returns c = record {
-  sizes = take_at c.put-sizes.new.sizes _ (length c.args.rows.now) (omega arith) ∙ c.put-sizes.ensures;
-  long = pad-length c.put-sizes.new.sizes (length c.args.rows.now - 0) (omega arith) (omega arith);
+  sizes = take_at c.put_sizes.new.sizes _ (length c.args.rows.now) (omega arith) ∙ c.put_sizes.ensures;
+  long = pad-length c.put_sizes.new.sizes (length c.args.rows.now - 0) (omega arith) (omega arith);
 }

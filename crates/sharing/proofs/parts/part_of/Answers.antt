@@ -3,5 +3,5 @@ use Rattle.std.proofs.Common.{arith}
 use Rattle.sharing.specs.PartFacts.{part-le}
 use Rattle.sharing.proofs.parts.part_of.Goals as goal
 
-pub overflow-cast-result : goal.overflow-cast-result
-overflow-cast-result c = omega (arith, c.rounded-up.ensures, part-le c.args.quantity c.args.whole c.args.size c.requires)
+pub overflow_cast-result : goal.overflow_cast-result
+overflow_cast-result c = omega (arith, c.rounded_up.ensures, part-le c.args.quantity c.args.whole c.args.size c.requires)

@@ -8,7 +8,7 @@ pub loop-i-preserved : goal.loop-i-preserved
 loop-i-preserved c =
     let sizes = c.args.sizes.now in
     let i = c.loop-i.i in
-    take_more_set c.loop-i.parts i c.part-of.result (omega arith) ∙ ap₂ (λ a (b : ℕ). a ++ b ∷ []) c.loop-i.invariant c.part-of.ensures ∙ sym (map_more (part c.args.quantity c.args.whole) sizes i 0 (omega arith))
+    take_more_set c.loop-i.parts i c.part_of.result (omega arith) ∙ ap₂ (λ a (b : ℕ). a ++ b ∷ []) c.loop-i.invariant c.part_of.ensures ∙ sym (map_more (part c.args.quantity c.args.whole) sizes i 0 (omega arith))
 
 pub returns : goal.returns
 returns c =

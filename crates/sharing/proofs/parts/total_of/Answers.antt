@@ -4,8 +4,8 @@ use Rattle.std.proofs.lemmas.List.{drop_more, drop_all}
 use Rattle.sharing.specs.Totals.{total}
 use Rattle.sharing.proofs.parts.total_of.Goals as goal
 
-pub overflow-add-sum : goal.overflow-add-sum
-overflow-add-sum c = omega (arith, ap total (drop_more c.args.sizes.now c.loop-size.size-index 0 (omega arith)), c.loop-size.invariant, c.requires)
+pub overflow_add-sum : goal.overflow_add-sum
+overflow_add-sum c = omega (arith, ap total (drop_more c.args.sizes.now c.loop-size.size-index 0 (omega arith)), c.loop-size.invariant, c.requires)
 
 pub loop-size-preserved : goal.loop-size-preserved
 loop-size-preserved c = omega (arith, ap total (drop_more c.args.sizes.now c.loop-size.size-index 0 (omega arith)), c.loop-size.invariant)

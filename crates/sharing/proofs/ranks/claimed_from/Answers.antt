@@ -9,8 +9,8 @@ use Rattle.sharing.proofs.ranks.claimed_from.Goals as goal
 pub bounds-parts-i : goal.bounds-parts-i
 bounds-parts-i c = omega (arith, ap length c.requires.parts ∙ length-map c.args.sizes.now (part c.args.quantity c.args.whole))
 
-pub overflow-add-sum : goal.overflow-add-sum
-overflow-add-sum c =
+pub overflow_add-sum : goal.overflow_add-sum
+overflow_add-sum c =
     let p = part c.args.quantity c.args.whole in
     let sizes = c.args.sizes.now in
     omega (arith, claim-more p c.args.from sizes c.args.parts.now c.loop-i.i c.claim-sum.result c.requires.parts (omega arith) c.claim-sum.ensures, c.loop-i.invariant, claimed-le p c.args.from sizes, ap total c.requires.parts, c.requires.small)

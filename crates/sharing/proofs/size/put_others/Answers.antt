@@ -5,7 +5,7 @@ use Rattle.sharing.proofs.size.put_others.Goals as goal
 
 pub loop-i-preserved : goal.loop-i-preserved
 loop-i-preserved c =
-    chosen_more c.args.rows.now c.loop-i.shares c.args.others.now c.loop-i.i c.share-for.result _ (omega arith) (omega arith) (omega arith) c.share-for.ensures ∙ c.loop-i.invariant
+    chosen_more c.args.rows.now c.loop-i.shares c.args.others.now c.loop-i.i c.share_for.result _ (omega arith) (omega arith) (omega arith) c.share_for.ensures ∙ c.loop-i.invariant
 
 pub returns : goal.returns
 returns c =

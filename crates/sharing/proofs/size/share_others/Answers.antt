@@ -9,22 +9,22 @@ use Rattle.sharing.specs.Pads.{pad-length, same-fronts, front-is}
 use Rattle.sharing.specs.Choosings.{sizes-small}
 use Rattle.sharing.proofs.size.share_others.Goals as goal
 
-pub share-pro-rata-requires : goal.share-pro-rata-requires
-share-pro-rata-requires c =
+pub share_pro_rata-requires : goal.share_pro_rata-requires
+share_pro_rata-requires c =
     let rows = c.args.rows.now in
-    let sizes = c.sizes-among-sizes.result in
-    let is = front-is (length rows) sizes (sizes_among Others rows) c.sizes-among-sizes.ensures.sizes in
+    let sizes = c.sizes_among-sizes.result in
+    let is = front-is (length rows) sizes (sizes_among Others rows) c.sizes_among-sizes.ensures.sizes in
     record {
-      long = same-fronts (length rows) (replicate 128 0) sizes (omega arith) (omega (arith, c.sizes-among-sizes.ensures.long));
-      few = omega (arith, length-take-le (length rows - 0) sizes (omega (arith, c.sizes-among-sizes.ensures.long)));
+      long = same-fronts (length rows) (replicate 128 0) sizes (omega arith) (omega (arith, c.sizes_among-sizes.ensures.long));
+      few = omega (arith, length-take-le (length rows - 0) sizes (omega (arith, c.sizes_among-sizes.ensures.long)));
       small = omega (arith, ap total is, sizes-small Others rows c.requires.sound, c.requires.few);
     }
 
 pub returns : goal.returns
 returns c =
     let rows = c.args.rows.now in
-    let is = front-is (length rows) c.sizes-among-sizes.result (sizes_among Others rows) c.sizes-among-sizes.ensures.sizes in
+    let is = front-is (length rows) c.sizes_among-sizes.result (sizes_among Others rows) c.sizes_among-sizes.ensures.sizes in
     record {
-      shares = take_at c.share-pro-rata.new.shares _ (length rows) (omega arith) ∙ c.share-pro-rata.ensures ∙ ap (pro_rata c.args.quantity) is;
-      long = pad-length c.share-pro-rata.new.shares (length rows - 0) (omega arith) (omega arith);
+      shares = take_at c.share_pro_rata.new.shares _ (length rows) (omega arith) ∙ c.share_pro_rata.ensures ∙ ap (pro_rata c.args.quantity) is;
+      long = pad-length c.share_pro_rata.new.shares (length rows - 0) (omega arith) (omega arith);
     }

@@ -8,8 +8,8 @@ use Rattle.book.proofs.book.Book.cancel.Goals as goal
 pub cancelled-requires : goal.cancelled-requires
 cancelled-requires c = standing-sound c.args.self.now.count c.args.at c.args.self.now.rows _ c.if-at-self.true (omega arith) c.args.self.now.sound
 
-pub invariant-of-self : goal.invariant-of-self
-invariant-of-self c = (
+pub invariant_of-self : goal.invariant_of-self
+invariant_of-self c = (
   length-set c.args.self.now.rows c.args.at c.cancelled.result ∙ c.args.self.now.long,
   (
     c.args.self.now.fits,

@@ -8,5 +8,5 @@ pub returns : goal.returns
 returns c =
     let b = c.args.self.now in
     let rows = take b.count b.rows in
-    let e : c.best-quote.result ≡ best_quote Buy rows = c.best-quote.ensures ∙ ap (best_quote Buy) c.rows.ensures in
+    let e : c.best_quote.result ≡ best_quote Buy rows = c.best_quote.ensures ∙ ap (best_quote Buy) c.rows.ensures in
     record { equation = e; best = subst (BestQuote Buy rows) (sym e) (best-tells Buy rows b.sound) }

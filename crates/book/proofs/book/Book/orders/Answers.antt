@@ -7,4 +7,4 @@ use Rattle.book.proofs.book.Book.orders.Goals as goal
 pub returns : goal.returns
 returns c =
     let b = c.args.self.now in
-    c.rows-up-to.ensures ∙ ap (count_by (λ (r : Row). leb (place r) 0)) c.rows.ensures ∙ orders-counted (take b.count b.rows) b.sound
+    c.rows_up_to.ensures ∙ ap (count_by (λ (r : Row). leb (place r) 0)) c.rows.ensures ∙ orders-counted (take b.count b.rows) b.sound

@@ -5,8 +5,8 @@ use Rattle.book.specs.Rewrites.{rest_row}
 use Rattle.book.proofs.RewriteFacts.{same_rest, written, written-sound, past-standing}
 use Rattle.book.proofs.book.Book.rest.Goals as goal
 
-pub invariant-of-self : goal.invariant-of-self
-invariant-of-self c = (
+pub invariant_of-self : goal.invariant_of-self
+invariant_of-self c = (
   length-set c.args.self.now.rows c.args.at c.rested.result ∙ c.args.self.now.long,
   (
     c.args.self.now.fits,

@@ -4,10 +4,10 @@ use Rattle.book.specs.Reads.{seeks}
 use Rattle.book.proofs.SoundFacts.{sound-kept}
 use Rattle.book.proofs.book.Book.take_away.Goals as goal
 
-pub invariant-of-self : goal.invariant-of-self
-invariant-of-self c =
+pub invariant_of-self : goal.invariant_of-self
+invariant_of-self c =
     let b = c.args.self.now in
-    (omega arith, (omega arith, (ap sound_table c.take-from-self.ensures.others ∙ sound-kept (λ x. not (seeks c.args.sought x)) (take b.count b.rows) b.sound, tt)))
+    (omega arith, (omega arith, (ap sound_table c.take_from-self.ensures.others ∙ sound-kept (λ x. not (seeks c.args.sought x)) (take b.count b.rows) b.sound, tt)))
 
 pub returns : goal.returns
-returns c = c.take-from-self.ensures.others
+returns c = c.take_from-self.ensures.others

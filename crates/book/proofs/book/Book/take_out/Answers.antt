@@ -10,6 +10,6 @@ returns-in-Some c =
     let row = c.in-Some.row in
     record {
       answer = sym (take-out-answer c.args.number (rows_of b) row c.if-number-eq0.false (sym c.in-Some.ensures));
-      table = c.take-away.ensures;
-      effects = subst (OrderOut c.args.number row.left (rows_of b)) (sym c.take-away.ensures) (order-out c.args.number (rows_of b) row b.sound (sym c.in-Some.ensures));
+      table = c.take_away.ensures;
+      effects = subst (OrderOut c.args.number row.left (rows_of b)) (sym c.take_away.ensures) (order-out c.args.number (rows_of b) row b.sound (sym c.in-Some.ensures));
     }

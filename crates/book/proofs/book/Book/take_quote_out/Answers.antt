@@ -12,10 +12,10 @@ returns-in-None c =
     let b = c.args.self.now in
     let m = c.args.maker in
     let rows = rows_of b in
-    let back = c.left-of-quote-back.ensures in
+    let back = c.left_of_quote-back.ensures in
     let out = quote-out m rows (quote-out-low m rows (sym c.in-None.ensures)) b.sound in
     record {
       answer = ap (λ (x : TakenBack). Ok x) back ∙ ap (λ (o : Option Refusal). answered {T = TakenBack} o (left_of_quote m rows)) c.in-None.ensures;
-      table = c.take-away.ensures;
-      effects = subst (λ (x : TakenBack). QuoteOut m x rows (rows_of c.take-away.new.self)) (sym back) (subst (QuoteOut m (left_of_quote m rows) rows) (sym c.take-away.ensures) out);
+      table = c.take_away.ensures;
+      effects = subst (λ (x : TakenBack). QuoteOut m x rows (rows_of c.take_away.new.self)) (sym back) (subst (QuoteOut m (left_of_quote m rows) rows) (sym c.take_away.ensures) out);
     }

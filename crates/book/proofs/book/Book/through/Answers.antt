@@ -2,6 +2,6 @@
 use Rattle.book.proofs.SumFacts.{book-sound, book-fits}
 use Rattle.book.proofs.book.Book.through.Goals as goal
 
-pub through-of-requires : goal.through-of-requires
-through-of-requires c =
+pub through_of-requires : goal.through_of-requires
+through_of-requires c =
     simp c.rows.ensures (record { sound = book-sound c.args.self.now; fits = book-fits c.args.self.now })

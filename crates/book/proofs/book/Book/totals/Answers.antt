@@ -9,8 +9,8 @@ use Rattle.book.proofs.ScanFacts.{total-held}
 use Rattle.book.proofs.SoundFacts.{sound-few}
 use Rattle.book.proofs.book.Book.totals.Goals as goal
 
-pub side-totals-requires : goal.side-totals-requires
-side-totals-requires c =
+pub side_totals-requires : goal.side_totals-requires
+side_totals-requires c =
     let b = c.args.self.now in
     let rows = take b.count b.rows in
     record {
@@ -22,7 +22,7 @@ pub returns : goal.returns
 returns c =
     let b = c.args.self.now in
     let rows = take b.count b.rows in
-    let e : c.side-totals.result ≡ totals_of c.args.side rows = c.side-totals.ensures ∙ ap (totals_of c.args.side) c.rows.ensures in
+    let e : c.side_totals.result ≡ totals_of c.args.side rows = c.side_totals.ensures ∙ ap (totals_of c.args.side) c.rows.ensures in
     record {
       equation = e;
       balance = subst (λ (t : Totals). t.accepted ≡ t.traded + t.routed + t.cancelled + t.left) (sym e) (total-held (of_side c.args.side) rows (and_parts (every sound_row rows) _ b.sound).0);

@@ -12,5 +12,5 @@ pub returns : goal.returns
 returns c =
     let q = c.args.quantity in
     let rows = rows_of c.args.level.now in
-    let same = pad-all c.share-by-size.new.shares (length c.holdings-rows.result.now - 0) (omega arith) ∙ ap padded (c.share-by-size.ensures ∙ ap (size_shares q) c.holdings-rows.ensures.rows) in
+    let same = pad-all c.share_by_size.new.shares (length c.holdings-rows.result.now - 0) (omega arith) ∙ ap padded (c.share_by_size.ensures ∙ ap (size_shares q) c.holdings-rows.ensures.rows) in
     record { shares = same; turns = subst (λ (w : List ℕ). SharedBySize q rows w) (sym same) (padded-by-size q rows) }

@@ -7,4 +7,4 @@ use Rattle.sharing.proofs.time.TimePrioritySharingRule.share.Goals as goal
 
 pub returns : goal.returns
 returns c =
-    pad-all c.share-by-time.new.shares (length c.holdings-rows.result.now - 0) (omega arith) ∙ ap padded (c.share-by-time.ensures ∙ ap (time_shares c.args.quantity) c.holdings-rows.ensures.rows)
+    pad-all c.share_by_time.new.shares (length c.holdings-rows.result.now - 0) (omega arith) ∙ ap padded (c.share_by_time.ensures ∙ ap (time_shares c.args.quantity) c.holdings-rows.ensures.rows)
