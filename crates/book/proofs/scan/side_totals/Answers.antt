@@ -6,12 +6,12 @@ use Rattle.book.specs.Ranks.{of_side}
 use Rattle.book.specs.Reads.{totals_of}
 use Rattle.book.proofs.ScanFacts.{totals-yes, totals-no, total-small, total-held, every_take, every-at}
 use Rattle.book.proofs.scan.side_totals.Goals as goal
-use Rattle.book.proofs.scan.side_totals.Goals.{then_is, else_is}
+use Rattle.book.proofs.scan.side_totals.Goals.{then-is, else-is}
 
 pub loop-row-preserved : goal.loop-row-preserved
 loop-row-preserved c = elim c.if-is.branch [
-  | then_is w ↦ w.totals-is ∙ w.with_row-totals.ensures ∙ totals-yes c.args.side c.args.rows.now c.loop-row.row-index _ c.loop-row-test.true c.loop-row.totals c.loop-row.invariant (sym w.if-is.ensures)
-  | else_is w ↦ w.totals-is ∙ totals-no c.args.side c.args.rows.now c.loop-row.row-index _ c.loop-row-test.true c.loop-row.totals c.loop-row.invariant (sym w.if-is.ensures)
+  | then-is w ↦ w.totals-is ∙ w.with_row-totals.ensures ∙ totals-yes c.args.side c.args.rows.now c.loop-row.row-index _ c.loop-row-test.true c.loop-row.totals c.loop-row.invariant (sym w.if-is.ensures)
+  | else-is w ↦ w.totals-is ∙ totals-no c.args.side c.args.rows.now c.loop-row.row-index _ c.loop-row-test.true c.loop-row.totals c.loop-row.invariant (sym w.if-is.ensures)
 ]
 
 pub returns : goal.returns

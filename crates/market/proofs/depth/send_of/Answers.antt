@@ -5,7 +5,7 @@ use Rattle.market.proofs.Sends.{sent-all}
 use Rattle.market.proofs.Placed.{placed_less, nothing-shown}
 use Rattle.market.proofs.Lowers.{not-lowered, lowered-more, other-stays, counts-less, still-shown, past-foremost, gave}
 use Rattle.market.proofs.depth.send_of.Goals as goal
-use Rattle.market.proofs.depth.send_of.Goals.{else-loop-left-test, then-loop-left-test+in-default·2, then-loop-left-test+in-default}
+use Rattle.market.proofs.depth.send_of.Goals.{else-loop-left-test, then-loop-left-test+in_default-2, then-loop-left-test+in_default}
 
 pub loop-left-init : goal.loop-left-init
 loop-left-init c = (omega arith, λ i p. omega arith, omega arith, λ p. omega arith, not-lowered c.args.side c.args.levels.now)
@@ -38,13 +38,13 @@ returns c =
     let cur = c.loop-left.levels in
     let sent = c.args.n - c.loop-left.left in
     let inv = c.loop-left.invariant in
-    let e = sym c.if-not-is-price.ensures in
+    let e = sym c.if-not-is_price.ensures in
     let less = counts-less d ls cur sent inv.4.0 inv.1 in
     let over : (c.loop-left.left ≡ 0) ⊎ (levels_show d ls q - sent ≡ 0) =
     elim c.loop-left-test.branch [
       | else-loop-left-test w ↦ inl (omega arith)
-      | then-loop-left-test+in-default·2 w ↦ inr (past-foremost d ls cur sent inv.4.0 inv.1 w.in-Some.at q w.in-Some.ensures (sym w.if-reached.ensures))
-      | then-loop-left-test+in-default w ↦ inr (sym (less q) ∙ nothing-shown d cur w.in-default.ensures q)
+      | then-loop-left-test+in_default-2 w ↦ inr (past-foremost d ls cur sent inv.4.0 inv.1 w.in-Some.at q w.in-Some.ensures (sym w.if-reached.ensures))
+      | then-loop-left-test+in_default w ↦ inr (sym (less q) ∙ nothing-shown d cur w.in_default.ensures q)
     ] in
     let answer = sent-all (levels_show d ls) q c.args.n c.loop-left.left e inv.0 inv.2 over in
     record {

@@ -17,7 +17,7 @@ loop-sending-preserved g c =
     let none : Sending = record { price = 0; contracts = 0 } in
     let was = at_drop_more (λ xs. sent_in_all f xs) ss i none c.loop-sending-test.true in
     let first = all_first f h (get_or ss i none) (drop (i + 1) ss) c.send.result c.send.ensures.answer c.send.ensures.taken in (
-      omega (arith, inv.0, c.send.type-inv),
+      omega (arith, inv.0, c.send.type_inv),
       λ p. omega (arith, inv.1 p, c.send.ensures.taken p),
       λ p. c.send.ensures.stays p ∙ inv.2 p,
       omega (arith, inv.3),
@@ -36,5 +36,5 @@ returns g c =
       answer = answer;
       taken = inv.1;
       stays = inv.2;
-      one-price = λ p h. answer ∙ all-at-one ss f p h;
+      one_price = λ p h. answer ∙ all-at-one ss f p h;
     }

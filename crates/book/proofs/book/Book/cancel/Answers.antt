@@ -9,13 +9,11 @@ pub cancelled-requires : goal.cancelled-requires
 cancelled-requires c = standing-sound c.args.self.now.count c.args.at c.args.self.now.rows _ c.if-at-self.true (omega arith) c.args.self.now.sound
 
 pub invariant_of-self : goal.invariant_of-self
-invariant_of-self c = (
-  length-set c.args.self.now.rows c.args.at c.cancelled.result ∙ c.args.self.now.long,
-  (
-    c.args.self.now.fits,
-    (written-sound c.args.self.now.count c.args.at (cancel_row) c.args.self.now.rows _ c.cancelled.result c.if-at-self.true (omega arith) c.cancelled.ensures (same-cancel) c.args.self.now.sound, tt),
-  ),
-)
+invariant_of-self c = record {
+  long = length-set c.args.self.now.rows c.args.at c.cancelled.result ∙ c.args.self.now.long;
+  fits = c.args.self.now.fits;
+  sound = written-sound c.args.self.now.count c.args.at (cancel_row) c.args.self.now.rows _ c.cancelled.result c.if-at-self.true (omega arith) c.cancelled.ensures (same-cancel) c.args.self.now.sound;
+}
 
 pub returns-then-at-self : goal.returns-then-at-self
 returns-then-at-self c = written c.args.self.now.count c.args.at (cancel_row) c.args.self.now.rows _ c.cancelled.result c.if-at-self.true (omega arith) c.cancelled.ensures

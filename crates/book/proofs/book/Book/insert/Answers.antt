@@ -17,7 +17,7 @@ invariant_of-self c =
     let b = c.args.self.now in
     let room = insert-room b.rows b.count 0 0 c.args.row b.long b.fits b.sound c.requires in
     let is : take (b.count + 1) c.insert_at.new.rows ≡ placed c.args.row (take b.count b.rows) = insert-done b.rows b.count c.rows_up_to-at.result c.place_of.result c.args.row b.long b.fits b.sound c.requires c.place_of.ensures c.rows.result.now c.rows.ensures c.rows_up_to-at.ensures c.insert_at.new.rows c.insert_at.ensures in
-    (omega arith, (omega arith, (ap sound_table is ∙ c.requires, tt)))
+    record { long = omega arith; fits = omega arith; sound = ap sound_table is ∙ c.requires }
 
 pub returns : goal.returns
 returns c =

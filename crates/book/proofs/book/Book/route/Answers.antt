@@ -9,13 +9,11 @@ pub routed-requires : goal.routed-requires
 routed-requires c = standing-sound c.args.self.now.count c.args.at c.args.self.now.rows _ c.if-at-self.true (omega arith) c.args.self.now.sound
 
 pub invariant_of-self : goal.invariant_of-self
-invariant_of-self c = (
-  length-set c.args.self.now.rows c.args.at c.routed.result ∙ c.args.self.now.long,
-  (
-    c.args.self.now.fits,
-    (written-sound c.args.self.now.count c.args.at (route_row c.args.n) c.args.self.now.rows _ c.routed.result c.if-at-self.true (omega arith) c.routed.ensures (same_route c.args.n) c.args.self.now.sound, tt),
-  ),
-)
+invariant_of-self c = record {
+  long = length-set c.args.self.now.rows c.args.at c.routed.result ∙ c.args.self.now.long;
+  fits = c.args.self.now.fits;
+  sound = written-sound c.args.self.now.count c.args.at (route_row c.args.n) c.args.self.now.rows _ c.routed.result c.if-at-self.true (omega arith) c.routed.ensures (same_route c.args.n) c.args.self.now.sound;
+}
 
 pub returns-then-at-self : goal.returns-then-at-self
 returns-then-at-self c = written c.args.self.now.count c.args.at (route_row c.args.n) c.args.self.now.rows _ c.routed.result c.if-at-self.true (omega arith) c.routed.ensures

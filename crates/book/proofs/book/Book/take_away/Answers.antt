@@ -7,7 +7,11 @@ use Rattle.book.proofs.book.Book.take_away.Goals as goal
 pub invariant_of-self : goal.invariant_of-self
 invariant_of-self c =
     let b = c.args.self.now in
-    (omega arith, (omega arith, (ap sound_table c.take_from-self.ensures.others ∙ sound-kept (λ x. not (seeks c.args.sought x)) (take b.count b.rows) b.sound, tt)))
+    record {
+      long = omega arith;
+      fits = omega arith;
+      sound = ap sound_table c.take_from-self.ensures.others ∙ sound-kept (λ x. not (seeks c.args.sought x)) (take b.count b.rows) b.sound;
+    }
 
 pub returns : goal.returns
 returns c = c.take_from-self.ensures.others

@@ -8,6 +8,6 @@ pub returns : goal.returns
 returns g c =
     let ls = take 64 (g.T.Table.levels c.args.self.now.table) in
     record {
-      answer = c.best-level.ensures;
-      first = best-at c.args.side (levels_show c.args.side ls) _ c.best-level.ensures;
+      answer = c.best_level.ensures;
+      first = best-at c.args.side (levels_show c.args.side ls) _ c.best_level.ensures;
     }

@@ -7,4 +7,4 @@ use Rattle.market.proofs.depth.RefMutSliceDepthLevelTable.best_level.Goals as go
 
 pub returns : goal.returns
 returns c =
-    c.best-of.ensures ∙ ap (λ ls. best_of c.args.side (levels_show c.args.side ls)) (cut c.args.self.now.now 64 c.min-top.result c.min-top.ensures)
+    c.best_of.ensures ∙ ap (λ ls. best_of c.args.side (levels_show c.args.side ls)) (cut c.args.self.now.now 64 c.min-top.result c.min-top.ensures)

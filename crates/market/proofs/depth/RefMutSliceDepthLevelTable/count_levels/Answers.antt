@@ -7,4 +7,4 @@ use Rattle.market.proofs.depth.RefMutSliceDepthLevelTable.count_levels.Goals as 
 
 pub returns : goal.returns
 returns c =
-    c.count-of.ensures ∙ ap (λ ls. counted (levels_show c.args.side ls) c.args.price c.args.n) (cut c.args.self.now.now 64 c.min-top.result c.min-top.ensures)
+    c.count_of.ensures ∙ ap (λ ls. counted (levels_show c.args.side ls) c.args.price c.args.n) (cut c.args.self.now.now 64 c.min-top.result c.min-top.ensures)

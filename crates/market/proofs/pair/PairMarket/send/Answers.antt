@@ -9,7 +9,7 @@ use Rattle.market.specs.Pairs.{Split}
 use Rattle.market.proofs.Sends.{turn-fits, turn-less, turn-most, turn-some, turn-split, no-split, sent-all, none-there, past-there}
 use Rattle.market.proofs.pair.PairMarket.send.Given as given
 use Rattle.market.proofs.pair.PairMarket.send.Goals as goal
-use Rattle.market.proofs.pair.PairMarket.send.Goals.{else-loop-left-test, then-loop-left-test+in-default·2, then-loop-left-test+in-default}
+use Rattle.market.proofs.pair.PairMarket.send.Goals.{else-loop-left-test, then-loop-left-test+in_default-2, then-loop-left-test+in_default}
 
 -- the level is the best of both markets together
 level : (g : given.Over) (c : goal.After-send-left-in-Some g) → Best c.args.side (λ p. g.A.ShownMarket.shown c.loop-left.self.first c.args.side p + g.B.ShownMarket.shown c.loop-left.self.second c.args.side p) (Some c.in-Some.level)
@@ -70,20 +70,20 @@ pub returns : goal.returns
 returns g c =
     let d = c.args.side in
     let q = c.args.price in
-    let e = sym c.if-not-is-price.ensures in
+    let e = sym c.if-not-is_price.ensures in
     let f = g.A.ShownMarket.shown c.loop-left.self.first d in
     let h = g.B.ShownMarket.shown c.loop-left.self.second d in
     let old : ℕ → ℕ = λ p. g.A.ShownMarket.shown c.args.self.now.first d p + g.B.ShownMarket.shown c.args.self.now.second d p in
     let over : (c.loop-left.left ≡ 0) ⊎ (old q - (c.args.n - c.loop-left.left) ≡ 0) =
     elim c.loop-left-test.branch [
       | else-loop-left-test w ↦ inl (omega arith)
-      | then-loop-left-test+in-default·2 w ↦
+      | then-loop-left-test+in_default-2 w ↦
           inr (sym (c.loop-left.invariant.1 q) ∙ past-there d (λ p. f p + h p) q w.in-Some.level e
           (best-at d (λ p. f p + h p) _ (sym w.in-Some.is ∙ pair-best-is d f h _ _ _ w.best.ensures.answer w.best-in-loop-left.ensures.answer w.better.ensures))
           (sym w.if-reached.ensures))
-      | then-loop-left-test+in-default w ↦
+      | then-loop-left-test+in_default w ↦
           inr (sym (c.loop-left.invariant.1 q) ∙ none-there d (λ p. f p + h p) q e
-          (best-at d (λ p. f p + h p) None (pair-best-is d f h _ _ None w.best.ensures.answer w.best-in-loop-left.ensures.answer w.in-default.ensures)))
+          (best-at d (λ p. f p + h p) None (pair-best-is d f h _ _ None w.best.ensures.answer w.best-in-loop-left.ensures.answer w.in_default.ensures)))
     ] in
     record {
       answer = sent-all old q c.args.n c.loop-left.left e c.loop-left.invariant.0 c.loop-left.invariant.2 over;
@@ -93,13 +93,13 @@ returns g c =
       split = c.loop-left.invariant.4;
     }
 
-pub returns-then-not-is-price : goal.returns-then-not-is-price
-returns-then-not-is-price g c =
+pub returns-then-not-is_price : goal.returns-then-not-is_price
+returns-then-not-is_price g c =
     let d = c.args.side in
     let f = g.A.ShownMarket.shown c.args.self.now.first d in
     let h = g.B.ShownMarket.shown c.args.self.now.second d in
     record {
-      answer = sym (cond-false (priced c.args.price) (min c.args.n (f c.args.price + h c.args.price)) 0 (sym c.if-not-is-price.ensures));
+      answer = sym (cond-false (priced c.args.price) (min c.args.n (f c.args.price + h c.args.price)) 0 (sym c.if-not-is_price.ensures));
       few = omega arith;
       taken = λ p. let z : f p + h p ≡ f p + h p - 0 = omega arith in z;
       stays = λ p. refl;

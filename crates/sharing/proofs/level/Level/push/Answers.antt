@@ -9,7 +9,11 @@ invariant_of-self c =
     let l = c.args.self.now in
     let h = c.args.holding in
     let free : l.count < length l.rows = omega arith in
-    (simp length-set (omega arith), (omega arith, (rw (take_more_set l.rows l.count h free) (sized-push (take l.count l.rows) h l.sound (sym c.if-not-is_size.ensures)), tt)))
+    record {
+      long = simp length-set (omega arith);
+      fits = omega arith;
+      sound = rw (take_more_set l.rows l.count h free) (sized-push (take l.count l.rows) h l.sound (sym c.if-not-is_size.ensures));
+    }
 
 pub returns : goal.returns
 returns c =
