@@ -10,7 +10,7 @@ pub loop-row-preserved : goal.loop-row-preserved
 loop-row-preserved c =
     let F : ℕ → List Row → ℕ = next_rank (part_of c.args.part) c.args.from in
     let i = c.loop-row.row-index in
-    ap (λ (b : ℕ). F b (drop (i + 1) c.args.rows.now)) c.better-of-best.ensures ∙ sym (at_drop_more (F c.loop-row.best) c.args.rows.now i _ c.loop-row-test.true) ∙ c.loop-row.invariant
+    ap (λ (b : ℕ). F b (drop (i + 1) c.args.rows.now)) c.better_of-best.ensures ∙ sym (at_drop_more (F c.loop-row.best) c.args.rows.now i _ c.loop-row-test.true) ∙ c.loop-row.invariant
 
 pub returns : goal.returns
 returns c =

@@ -9,7 +9,7 @@ use Rattle.book.proofs.RewriteFacts.{changed-length, map-step, map-passed, pass-
 use Rattle.settling.specs.declared.Edges.{Edges}
 use Rattle.settling.specs.Settles.{edge_of, cancel_through}
 use Rattle.settling.proofs.cancel.Goals as goal
-use Rattle.settling.proofs.cancel.Goals.{then-is-beyond, else-is-beyond}
+use Rattle.settling.proofs.cancel.Goals.{then-is_beyond, else-is_beyond}
 
 -- the test over the copy of the row that was read
 read : (edges : Edges) (i : ℕ) (d : Row) (seen rows : List Row) (b : Bool) → seen ≡ rows → b ≡ through_price (get_or seen i d).side (edge_of edges (get_or seen i d).side) (get_or seen i d).limit
@@ -29,16 +29,16 @@ loop-i-preserved c =
     let rows = rows_of c.loop-i.book in
     let f = cancel_through edges in
     let lt : i < length rows = omega (arith, c.loop-i.invariant.0, c.loop-i-test.true) in
-    elim c.if-is-beyond.branch [
-      | then-is-beyond w ↦
-          let h = read edges i _ c.rows.result.now rows true c.rows.ensures w.if-is-beyond.ensures in
-          let now : rows_of c.if-is-beyond.book ≡ changed_at i cancel_row rows = ap rows_of w.book-is ∙ w.cancel.ensures in (
+    elim c.if-is_beyond.branch [
+      | then-is_beyond w ↦
+          let h = read edges i _ c.rows.result.now rows true c.rows.ensures w.if-is_beyond.ensures in
+          let now : rows_of c.if-is_beyond.book ≡ changed_at i cancel_row rows = ap rows_of w.book-is ∙ w.cancel.ensures in (
             ap length now ∙ changed-length i cancel_row rows ∙ c.loop-i.invariant.0,
             ap (λ (xs : List Row). take (i + 1) xs ++ map f (drop (i + 1) xs)) now ∙ map-step f cancel_row i rows _ lt (sym (cond-true _ _ _ h)) ∙ c.loop-i.invariant.1,
           )
-      | else-is-beyond w ↦
-          let h = read edges i _ c.rows.result.now rows false c.rows.ensures w.if-is-beyond.ensures in
-          let now : rows_of c.if-is-beyond.book ≡ rows = ap rows_of w.book-is in (
+      | else-is_beyond w ↦
+          let h = read edges i _ c.rows.result.now rows false c.rows.ensures w.if-is_beyond.ensures in
+          let now : rows_of c.if-is_beyond.book ≡ rows = ap rows_of w.book-is in (
             ap length now ∙ c.loop-i.invariant.0,
             ap (λ (xs : List Row). take (i + 1) xs ++ map f (drop (i + 1) xs)) now ∙ map-passed f i rows _ lt (sym (cond-false _ _ _ h)) ∙ c.loop-i.invariant.1,
           )

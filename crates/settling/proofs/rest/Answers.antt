@@ -28,9 +28,9 @@ loop-i-preserved g c =
     let away : Side → Option ℕ = λ side. best_of side (g.M.ShownMarket.shown c.args.market.now side) in
     let i = c.loop-i.i in
     let rows = rows_of c.loop-i.book in
-    let at = c.resting-of-at.result in
+    let at = c.resting_of-at.result in
     let lt : i < length rows = omega (arith, c.loop-i.invariant.0, c.loop-i-test.true) in
-    let same = placed permitted away i _ c.rows.result.now rows at c.rows.ensures c.resting-of-at.ensures in
+    let same = placed permitted away i _ c.rows.result.now rows at c.rows.ensures c.resting_of-at.ensures in
     let now = c.rest.ensures in (
       ap length now ∙ changed-length i (rest_row at.working at.shown) rows ∙ c.loop-i.invariant.0,
       ap (λ (xs : List Row). take (i + 1) xs ++ map (rested_row permitted away) (drop (i + 1) xs)) now ∙ map-step (rested_row permitted away) (rest_row at.working at.shown) i rows _ lt same ∙ c.loop-i.invariant.1,
