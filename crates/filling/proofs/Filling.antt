@@ -21,12 +21,12 @@ module _ (shares : ℕ → List Holding → List ℕ) (side : Side) (upto volume
   pub record Filling (rows : List Row) (k rest : ℕ) : Type 0 where
     pub most : k ≤ upto
     pub rows_are : rows ≡ filled_rows shares side k volume start
-    pub rest-is : rest ≡ volume - below (of_side side) k start
+    pub rest_is : rest ≡ volume - below (of_side side) k start
 
   pub fill-first : (k : ℕ) → k ≡ next_rank (of_side side) 0 upto start → Filling start k volume
   fill-first k e =
       let w = first (of_side side) trade_row (λ g r. refl) (level_shares shares side volume start) start upto k e in
-      record { most = w.most; rows_are = w.rows_are; rest-is = omega (arith, w.sums, below_none (of_side side) start) }
+      record { most = w.most; rows_are = w.rows_are; rest_is = omega (arith, w.sums, below_none (of_side side) start) }
 
   same-level : (k : ℕ) (rows : List Row) → rows ≡ filled_rows shares side k volume start → level_at (of_side side) k rows ≡ level_at (of_side side) k start
   same-level k rows er = ap (level_at (of_side side) k) er ∙ level-kept (of_side side) trade_row (λ g r. refl) (level_shares shares side volume start) k k (omega arith) [] start
@@ -46,7 +46,7 @@ module _ (shares : ℕ → List Holding → List ℕ) (side : Side) (upto volume
       let w = advance part trade_row (λ g r. refl) (level_shares shares side volume start) start upto k rows after k' lt er (ea ∙ ap D sh) ek in
       let same : at_rank part k rows ≡ at_rank part k start = sym (level-total part k rows) ∙ ap (λ (xs : List Holding). total (sizes xs)) sa ∙ level-total part k start in
       record {
-        filling = record { most = w.most; rows_are = w.rows_are; rest-is = omega (arith, es, el, en, same, w.sums, below_more part k start) };
+        filling = record { most = w.most; rows_are = w.rows_are; rest_is = omega (arith, es, el, en, same, w.sums, below_more part k start) };
         further = omega (arith, w.least);
       }
 

@@ -16,6 +16,6 @@ returns g c =
     let shares = g.R.SharingRule.shares c.args.rule.now c.args.rest in
     let D : List ℕ → List Row = λ s. deal part trade_row c.args.at s 0 rows in
     record {
-      rows = c.hand-out.ensures ∙ ap D c.share-shares.ensures ∙ deal-padded part trade_row c.args.at _ 0 rows ∙ ap (λ (xs : List Holding). D (shares xs)) c.gather-gathered.ensures.level;
+      rows = c.hand_out.ensures ∙ ap D c.share-shares.ensures ∙ deal-padded part trade_row c.args.at _ 0 rows ∙ ap (λ (xs : List Holding). D (shares xs)) c.gather-gathered.ensures.level;
       contracts = c.gather-gathered.ensures.contracts;
     }

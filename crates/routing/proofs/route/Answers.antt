@@ -14,25 +14,25 @@ use Rattle.routing.proofs.route.Goals as goal
 pub loop-at-init : goal.loop-at-init
 loop-at-init g c =
     let f = seen_at (g.M.ShownMarket.shown c.args.market.now (opposite c.args.side)) c.args.price c.args.side in
-    let w = route-first f c.args.side c.args.upto (rows_of c.args.book.now) _ (c.next-rank-at.ensures.is ∙ ap (next_rank (can_route c.args.side) 0 c.args.upto) c.rows.ensures) in
-    (w.most, w.rows-are, w.sent-is, (λ p. omega arith), (λ p. refl))
+    let w = route-first f c.args.side c.args.upto (rows_of c.args.book.now) _ (c.next_rank-at.ensures.is ∙ ap (next_rank (can_route c.args.side) 0 c.args.upto) c.rows.ensures) in
+    (w.most, w.rows_are, w.sent_is, (λ p. omega arith), (λ p. refl))
 
-pub overflow-add-sent : goal.overflow-add-sent
-overflow-add-sent g c =
+pub overflow_add-sent : goal.overflow_add-sent
+overflow_add-sent g c =
     let f = seen_at (g.M.ShownMarket.shown c.args.market.now (opposite c.args.side)) c.args.price c.args.side in
-    omega (arith, sum_fits f c.args.side c.args.upto (rows_of c.args.book.now) c.loop-at.at c.loop-at.sent c.route-level-sent.result _ (rows_of c.loop-at.book) (rows_few c.args.book.now) c.args.book.now.sound c.loop-at.invariant.1 c.loop-at.invariant.2 c.route-level-sent.ensures.sent)
+    omega (arith, sum_fits f c.args.side c.args.upto (rows_of c.args.book.now) c.loop-at.at c.loop-at.sent c.route_level-sent.result _ (rows_of c.loop-at.book) (rows_few c.args.book.now) c.args.book.now.sound c.loop-at.invariant.1 c.loop-at.invariant.2 c.route_level-sent.ensures.sent)
 
-turn : (g : given.Over) (c : goal.After-next-rank-at-in-loop-at g) → Turned (seen_at (g.M.ShownMarket.shown c.args.market.now (opposite c.args.side)) c.args.price c.args.side) c.args.side c.args.upto (rows_of c.args.book.now) c.loop-at.at (rows_of c.route-level-sent.new.book) c.next-rank-at-in-loop-at.result (c.loop-at.sent + c.route-level-sent.result)
+turn : (g : given.Over) (c : goal.After-next_rank-at-in-loop-at g) → Turned (seen_at (g.M.ShownMarket.shown c.args.market.now (opposite c.args.side)) c.args.price c.args.side) c.args.side c.args.upto (rows_of c.args.book.now) c.loop-at.at (rows_of c.route_level-sent.new.book) c.next_rank-at-in-loop-at.result (c.loop-at.sent + c.route_level-sent.result)
 turn g c =
     let shown = g.M.ShownMarket.shown in
     let side = c.args.side in
     let o = opposite side in
     let f = seen_at (shown c.args.market.now o) c.args.price side in
-    let q : count_at (shown c.loop-at.market o) c.price-at.result ≡ f c.loop-at.at - c.loop-at.sent =
-    count_less (shown c.args.market.now o) (shown c.loop-at.market o) c.price-at.result c.loop-at.sent c.loop-at.invariant.3 ∙ ap (λ (x : ℕ). count_at (shown c.args.market.now o) x - c.loop-at.sent) c.price-at.ensures in
-    route-turn f side c.args.upto (rows_of c.args.book.now) c.loop-at.at c.loop-at.sent _ c.route-level-sent.result (rows_of c.loop-at.book) (rows_of c.route-level-sent.new.book) c.next-rank-at-in-loop-at.result
-    c.loop-at-test.true c.loop-at.invariant.1 c.loop-at.invariant.2 q c.route-level-sent.ensures.rows c.route-level-sent.ensures.sent
-    (c.next-rank-at-in-loop-at.ensures.is ∙ ap (next_rank (can_route side) (c.loop-at.at + 1) c.args.upto) c.rows-in-loop-at.ensures)
+    let q : count_at (shown c.loop-at.market o) c.price_at.result ≡ f c.loop-at.at - c.loop-at.sent =
+    count_less (shown c.args.market.now o) (shown c.loop-at.market o) c.price_at.result c.loop-at.sent c.loop-at.invariant.3 ∙ ap (λ (x : ℕ). count_at (shown c.args.market.now o) x - c.loop-at.sent) c.price_at.ensures in
+    route-turn f side c.args.upto (rows_of c.args.book.now) c.loop-at.at c.loop-at.sent _ c.route_level-sent.result (rows_of c.loop-at.book) (rows_of c.route_level-sent.new.book) c.next_rank-at-in-loop-at.result
+    c.loop-at-test.true c.loop-at.invariant.1 c.loop-at.invariant.2 q c.route_level-sent.ensures.rows c.route_level-sent.ensures.sent
+    (c.next_rank-at-in-loop-at.ensures.is ∙ ap (next_rank (can_route side) (c.loop-at.at + 1) c.args.upto) c.rows-in-loop-at.ensures)
 
 pub loop-at-smaller : goal.loop-at-smaller
 loop-at-smaller g c = let w = turn g c in omega (arith, w.further, w.routing.most, c.loop-at-test.true)
@@ -41,10 +41,10 @@ pub loop-at-preserved : goal.loop-at-preserved
 loop-at-preserved g c =
     let w = (turn g c).routing in (
       w.most,
-      w.rows-are,
-      w.sent-is,
-      (λ p. omega (arith, c.route-level-sent.ensures.taken p, c.loop-at.invariant.3 p)),
-      (λ p. c.route-level-sent.ensures.stays p ∙ c.loop-at.invariant.4 p),
+      w.rows_are,
+      w.sent_is,
+      (λ p. omega (arith, c.route_level-sent.ensures.taken p, c.loop-at.invariant.3 p)),
+      (λ p. c.route_level-sent.ensures.stays p ∙ c.loop-at.invariant.4 p),
     )
 
 pub returns : goal.returns

@@ -18,7 +18,7 @@ use Rattle.routing.specs.Routes.{count_at, served}
 use Rattle.routing.proofs.Sending.{counted_is, count_less, opposite-twice, serve-yes, sum-yes, serve-no, level-fits}
 use Rattle.routing.proofs.route_level.Given as given
 use Rattle.routing.proofs.route_level.Goals as goal
-use Rattle.routing.proofs.route_level.Goals.{then-stands-at, else-stands-at}
+use Rattle.routing.proofs.route_level.Goals.{then-stands_at, else-stands_at}
 
 -- the answer of a send to the side that rows of `side` face, over the copy of the row that was read
 answer : (f : Side → ℕ → ℕ) (s o : Side) (p n i : ℕ) (d : Row) (seen rows : List Row) → o ≡ opposite s → seen ≡ rows → n ≡ counted (f o) p (get_or seen i d).left → n ≡ min (get_or rows i d).left (count_at (f (opposite s)) p)
@@ -31,14 +31,14 @@ loop-i-init g c = (sym (ap length c.rows-count.ensures), refl, omega arith, (λ 
 pub bounds-rows-i : goal.bounds-rows-i
 bounds-rows-i g c = omega (arith, ap length c.rows.ensures, c.loop-i.invariant.0, c.loop-i-test.true)
 
-pub overflow-add-sent : goal.overflow-add-sent
-overflow-add-sent g c =
+pub overflow_add-sent : goal.overflow_add-sent
+overflow_add-sent g c =
     let part = can_route c.args.side in
     let shown = g.M.ShownMarket.shown in
     let rows = rows_of c.loop-i.book in
     let q = count_at (shown c.loop-i.market (opposite c.args.side)) c.args.price in
     let lt : c.loop-i.i < length rows = omega (arith, c.loop-i.invariant.0, c.loop-i-test.true) in
-    let h = stands_read part c.args.at c.loop-i.i _ c.rows.result.now rows true c.rows.ensures (sym c.if-stands-at.ensures) in
+    let h = stands_read part c.args.at c.loop-i.i _ c.rows.result.now rows true c.rows.ensures (sym c.if-stands_at.ensures) in
     let n = answer (shown c.loop-i.market) c.args.side c.opposite.result c.args.price c.send-n.result c.loop-i.i _ c.rows.result.now rows c.opposite.ensures c.rows.ensures c.send-n.ensures.answer in
     omega (arith, c.loop-i.invariant.2, sum-yes part route_row c.args.at rows c.loop-i.i _ lt q c.send-n.result (q - c.send-n.result) h n (omega arith), level-fits part c.args.at (rows_of c.args.book.now) (rows_few c.args.book.now) c.args.book.now.sound)
 
@@ -52,19 +52,19 @@ loop-i-preserved g c =
     let rows = rows_of c.loop-i.book in
     let lt : i < length rows = omega (arith, c.loop-i.invariant.0, c.loop-i-test.true) in
     let q = count_at (shown c.loop-i.market (opposite side)) c.args.price in
-    let q' = count_at (shown c.if-stands-at.market (opposite side)) c.args.price in
+    let q' = count_at (shown c.if-stands_at.market (opposite side)) c.args.price in
     let S : List Row → ℕ = λ xs. total (sizes (level_at part k (drop (i + 1) xs))) in
-    elim c.if-stands-at.branch [
-      | then-stands-at w ↦
-          let h = stands_read part k i _ c.rows.result.now rows true c.rows.ensures (sym w.if-stands-at.ensures) in
+    elim c.if-stands_at.branch [
+      | then-stands_at w ↦
+          let h = stands_read part k i _ c.rows.result.now rows true c.rows.ensures (sym w.if-stands_at.ensures) in
           let n = w.send-n.result in
           let en = answer (shown c.loop-i.market) side w.opposite.result c.args.price n i _ c.rows.result.now rows w.opposite.ensures c.rows.ensures w.send-n.ensures.answer in
-          let now : rows_of c.if-stands-at.book ≡ changed_at i (route_row n) rows = ap rows_of w.book-is ∙ w.route.ensures in
-          let fell : (p : ℕ) → shown c.if-stands-at.market (opposite side) p ≡ shown c.loop-i.market (opposite side) p - n = λ p.
+          let now : rows_of c.if-stands_at.book ≡ changed_at i (route_row n) rows = ap rows_of w.book-is ∙ w.route.ensures in
+          let fell : (p : ℕ) → shown c.if-stands_at.market (opposite side) p ≡ shown c.loop-i.market (opposite side) p - n = λ p.
           ap (λ m. shown m (opposite side) p) w.market-is ∙ subst (λ (s : Side). shown w.send-n.new.self s p ≡ shown c.loop-i.market s p - n) w.opposite.ensures (w.send-n.ensures.taken p) in
-          let same : (p : ℕ) → shown c.if-stands-at.market side p ≡ shown c.loop-i.market side p = λ p.
+          let same : (p : ℕ) → shown c.if-stands_at.market side p ≡ shown c.loop-i.market side p = λ p.
           ap (λ m. shown m side p) w.market-is ∙ subst (λ (s : Side). shown w.send-n.new.self s p ≡ shown c.loop-i.market s p) (ap opposite w.opposite.ensures ∙ opposite-twice side) (w.send-n.ensures.stays p) in
-          let eq : q' ≡ q - n = count_less (shown c.loop-i.market (opposite side)) (shown c.if-stands-at.market (opposite side)) c.args.price n fell in
+          let eq : q' ≡ q - n = count_less (shown c.loop-i.market (opposite side)) (shown c.if-stands_at.market (opposite side)) c.args.price n fell in
           let sums = sum-yes part route_row k rows i _ lt q n q' h en eq in (
             ap length now ∙ changed-length i (route_row n) rows ∙ c.loop-i.invariant.0,
             ap (λ (xs : List Row). take (i + 1) xs ++ served part route_row k q' (drop (i + 1) xs)) now ∙ serve-yes part route_row k rows i _ lt q n q' h en eq ∙ c.loop-i.invariant.1,
@@ -72,9 +72,9 @@ loop-i-preserved g c =
             (λ p. omega (arith, fell p, w.sent-is, c.loop-i.invariant.3 p)),
             (λ p. same p ∙ c.loop-i.invariant.4 p),
           )
-      | else-stands-at w ↦
-          let h = stands_read part k i _ c.rows.result.now rows false c.rows.ensures (sym w.if-stands-at.ensures) in
-          let now : rows_of c.if-stands-at.book ≡ rows = ap rows_of w.book-is in
+      | else-stands_at w ↦
+          let h = stands_read part k i _ c.rows.result.now rows false c.rows.ensures (sym w.if-stands_at.ensures) in
+          let now : rows_of c.if-stands_at.book ≡ rows = ap rows_of w.book-is in
           let eq : q' ≡ q = ap (λ m. count_at (shown m (opposite side)) c.args.price) w.market-is in
           let none = ap (λ (xs : List Holding). total (sizes xs)) (here-no part k rows i _ lt h) in (
             ap length now ∙ c.loop-i.invariant.0,
