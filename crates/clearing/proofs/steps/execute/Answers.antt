@@ -16,7 +16,7 @@ returns-else-routes g c =
     let p = c.in-Some.p in
     let v = c.args.volume in
     record {
-      rows = c.fill-at.ensures ∙ sym (cond-false (routes c.args.kind) (after_price shares f p v start) (filled_at shares p v start) (sym c.if-routes.ensures))
+      rows = c.fill_at.ensures ∙ sym (cond-false (routes c.args.kind) (after_price shares f p v start) (filled_at shares p v start) (sym c.if-routes.ensures))
           ∙ ap (λ (x : Option ℕ). executed shares f c.args.kind x v start) (sym c.in-Some.is);
-      counts = λ side q. let z = ap (routed_on (opposite side)) c.fill-at.ensures ∙ fill-routed shares p v start (opposite side) in omega (arith, z);
+      counts = λ side q. let z = ap (routed_on (opposite side)) c.fill_at.ensures ∙ fill-routed shares p v start (opposite side) in omega (arith, z);
     }

@@ -15,16 +15,16 @@ returns g c =
     let shown = g.M.ShownMarket.shown in
     let shares = g.R.SharingRule.shares c.args.rule.now in
     let f = shown c.args.market.now in
-    let k = shown c.send-at.new.market in
+    let k = shown c.send_at.new.market in
     let p = c.args.price in
     let start = rows_of c.args.book.now in
-    let one = rows_of c.send-at.new.book in
-    let two = rows_of c.fill-at.new.book in
-    let three = rows_of c.send-at-2.new.book in
-    let asks = by_side c.better-price-buys-at.result c.better-price-sells-at.result in
-    let better : (s : Side) → asks s ≡ better_than p s = λ s. elim s as (λ s. asks s ≡ better_than p s) [ Buy ↦ c.better-price-buys-at.ensures | Sell ↦ c.better-price-sells-at.ensures ] in
-    let sent = c.send-at.ensures.rows ∙ sent-same f f asks (better_than p) p start (λ s. ap (count_at (f (opposite s))) (better s)) in
+    let one = rows_of c.send_at.new.book in
+    let two = rows_of c.fill_at.new.book in
+    let three = rows_of c.send_at-2.new.book in
+    let asks = by_side c.better_price-buys_at.result c.better_price-sells_at.result in
+    let better : (s : Side) → asks s ≡ better_than p s = λ s. elim s as (λ s. asks s ≡ better_than p s) [ Buy ↦ c.better_price-buys_at.ensures | Sell ↦ c.better_price-sells_at.ensures ] in
+    let sent = c.send_at.ensures.rows ∙ sent-same f f asks (better_than p) p start (λ s. ap (count_at (f (opposite s))) (better s)) in
     record {
-      rows = price-rows shares f k p c.args.volume start one two three sent c.send-at.ensures.counts c.fill-at.ensures c.send-at-2.ensures.rows;
-      counts = price-counts shares f k p c.args.volume start one two three sent c.send-at.ensures.counts c.fill-at.ensures c.send-at-2.ensures.rows (shown c.send-at-2.new.market) c.send-at-2.ensures.counts;
+      rows = price-rows shares f k p c.args.volume start one two three sent c.send_at.ensures.counts c.fill_at.ensures c.send_at-2.ensures.rows;
+      counts = price-counts shares f k p c.args.volume start one two three sent c.send_at.ensures.counts c.fill_at.ensures c.send_at-2.ensures.rows (shown c.send_at-2.new.market) c.send_at-2.ensures.counts;
     }

@@ -14,20 +14,20 @@ returns g c =
     let shown = g.M.ShownMarket.shown in
     let f = shown c.args.market.now in
     let start = rows_of c.args.book.now in
-    let mid = rows_of c.route-at-buys.new.book in
-    let end = rows_of c.route-at-sells.new.book in
-    let n = c.ranks-at.result in
-    let m = c.ranks-at-2.result in
-    let bids : shown c.route-at-buys.new.market Buy ≡ f Buy = fun_ext c.route-at-buys.ensures.stays in
-    let qb = count_at (f Sell) c.args.buys-at in
-    let qs = count_at (f Buy) c.args.sells-at in
-    let one : mid ≡ routed_rows (λ _. qb) Buy n start = c.route-at-buys.ensures.rows in
-    let two : end ≡ routed_rows (λ _. qs) Sell m mid = c.route-at-sells.ensures.rows ∙ ap (λ (k : ℕ → ℕ). routed_rows (λ _. count_at k c.args.sells-at) Sell m mid) bids in
+    let mid = rows_of c.route_at-buys.new.book in
+    let end = rows_of c.route_at-sells.new.book in
+    let n = c.ranks_at.result in
+    let m = c.ranks_at-2.result in
+    let bids : shown c.route_at-buys.new.market Buy ≡ f Buy = fun_ext c.route_at-buys.ensures.stays in
+    let qb = count_at (f Sell) c.args.buys_at in
+    let qs = count_at (f Buy) c.args.sells_at in
+    let one : mid ≡ routed_rows (λ _. qb) Buy n start = c.route_at-buys.ensures.rows in
+    let two : end ≡ routed_rows (λ _. qs) Sell m mid = c.route_at-sells.ensures.rows ∙ ap (λ (k : ℕ → ℕ). routed_rows (λ _. count_at k c.args.sells_at) Sell m mid) bids in
     record {
-      rows = two ∙ ap (λ (x : ℕ). routed_rows (λ _. qs) Sell x mid) c.ranks-at-2.ensures
-          ∙ ap (routed_rows (λ _. qs) Sell (ranks_at Sell c.args.price)) (one ∙ ap (λ (x : ℕ). routed_rows (λ _. qb) Buy x start) c.ranks-at.ensures);
-      counts = counts-both f (shown c.route-at-buys.new.market) (shown c.route-at-sells.new.market) c.route-at-buys.result c.route-at-sells.result start mid end
-          c.route-at-buys.ensures.total c.route-at-sells.ensures.total
+      rows = two ∙ ap (λ (x : ℕ). routed_rows (λ _. qs) Sell x mid) c.ranks_at-2.ensures
+          ∙ ap (routed_rows (λ _. qs) Sell (ranks_at Sell c.args.price)) (one ∙ ap (λ (x : ℕ). routed_rows (λ _. qb) Buy x start) c.ranks_at.ensures);
+      counts = counts-both f (shown c.route_at-buys.new.market) (shown c.route_at-sells.new.market) c.route_at-buys.result c.route_at-sells.result start mid end
+          c.route_at-buys.ensures.total c.route_at-sells.ensures.total
           (ap (routed_on Buy) two ∙ routed-sum-other (λ _. qs) Sell m mid) (ap (routed_on Sell) one ∙ routed-sum-other (λ _. qb) Buy n start)
-          c.route-at-buys.ensures.taken c.route-at-buys.ensures.stays c.route-at-sells.ensures.taken c.route-at-sells.ensures.stays;
+          c.route_at-buys.ensures.taken c.route_at-buys.ensures.stays c.route_at-sells.ensures.taken c.route_at-sells.ensures.stays;
     }

@@ -13,17 +13,17 @@ returns g c =
     let shown = g.M.ShownMarket.shown in
     let f = shown c.args.market.now in
     let start = rows_of c.args.book.now in
-    let mid = rows_of c.route-own-buys.new.book in
-    let end = rows_of c.route-own-sells.new.book in
-    let bids : shown c.route-own-buys.new.market Buy ≡ f Buy = fun_ext c.route-own-buys.ensures.stays in
+    let mid = rows_of c.route_own-buys.new.book in
+    let end = rows_of c.route_own-sells.new.book in
+    let bids : shown c.route_own-buys.new.market Buy ≡ f Buy = fun_ext c.route_own-buys.ensures.stays in
     let fb : ℕ → ℕ = λ k. count_at (f Sell) (own_limit Buy k) in
     let fs : ℕ → ℕ = λ k. count_at (f Buy) (own_limit Sell k) in
-    let one : mid ≡ routed_rows fb Buy 100001 start = c.route-own-buys.ensures.rows in
-    let two : end ≡ routed_rows fs Sell 100001 mid = c.route-own-sells.ensures.rows ∙ ap (λ (h : ℕ → ℕ). routed_rows (λ k. count_at h (own_limit Sell k)) Sell 100001 mid) bids in
+    let one : mid ≡ routed_rows fb Buy 100001 start = c.route_own-buys.ensures.rows in
+    let two : end ≡ routed_rows fs Sell 100001 mid = c.route_own-sells.ensures.rows ∙ ap (λ (h : ℕ → ℕ). routed_rows (λ k. count_at h (own_limit Sell k)) Sell 100001 mid) bids in
     record {
       rows = two ∙ ap (routed_rows fs Sell 100001) one;
-      counts = counts-both f (shown c.route-own-buys.new.market) (shown c.route-own-sells.new.market) c.route-own-buys.result c.route-own-sells.result start mid end
-          c.route-own-buys.ensures.total c.route-own-sells.ensures.total
+      counts = counts-both f (shown c.route_own-buys.new.market) (shown c.route_own-sells.new.market) c.route_own-buys.result c.route_own-sells.result start mid end
+          c.route_own-buys.ensures.total c.route_own-sells.ensures.total
           (ap (routed_on Buy) two ∙ routed-sum-other fs Sell 100001 mid) (ap (routed_on Sell) one ∙ routed-sum-other fb Buy 100001 start)
-          c.route-own-buys.ensures.taken c.route-own-buys.ensures.stays c.route-own-sells.ensures.taken c.route-own-sells.ensures.stays;
+          c.route_own-buys.ensures.taken c.route_own-buys.ensures.stays c.route_own-sells.ensures.taken c.route_own-sells.ensures.stays;
     }

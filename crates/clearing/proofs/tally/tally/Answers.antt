@@ -34,19 +34,19 @@ best-more side rows i d b n x y lt eb en ex ey =
 pub loop-row-init : goal.loop-row-init
 loop-row-init c = (refl, refl, refl)
 
-pub overflow-add-routed : goal.overflow-add-routed
-overflow-add-routed c =
+pub overflow_add-routed : goal.overflow_add-routed
+overflow_add-routed c =
     omega (
       arith,
-      more (λ (r : Row). r.routed) c.args.side c.rows-row-items.result.now c.loop-row.row-index _ c.is-of-side.result c.counted-routed.result c.loop-row.routed c.loop-row-test.true c.is-of-side.ensures c.counted-routed.ensures c.loop-row.invariant.0,
+      more (λ (r : Row). r.routed) c.args.side c.rows-row-items.result.now c.loop-row.row-index _ c.is-of_side.result c.counted-routed.result c.loop-row.routed c.loop-row-test.true c.is-of_side.ensures c.counted-routed.ensures c.loop-row.invariant.0,
       small (λ (r : Row). r.routed) (λ r. omega arith) c.args.side c.args.book.now c.rows-row-items.result.now (c.loop-row.row-index + 1) c.rows-row-items.ensures,
     )
 
-pub overflow-add-cancelled : goal.overflow-add-cancelled
-overflow-add-cancelled c =
+pub overflow_add-cancelled : goal.overflow_add-cancelled
+overflow_add-cancelled c =
     omega (
       arith,
-      more (λ (r : Row). r.cancelled) c.args.side c.rows-row-items.result.now c.loop-row.row-index _ c.is-of-side.result c.counted-cancelled.result c.loop-row.cancelled c.loop-row-test.true c.is-of-side.ensures c.counted-cancelled.ensures c.loop-row.invariant.1,
+      more (λ (r : Row). r.cancelled) c.args.side c.rows-row-items.result.now c.loop-row.row-index _ c.is-of_side.result c.counted-cancelled.result c.loop-row.cancelled c.loop-row-test.true c.is-of_side.ensures c.counted-cancelled.ensures c.loop-row.invariant.1,
       small (λ (r : Row). r.cancelled) (λ r. omega arith) c.args.side c.args.book.now c.rows-row-items.result.now (c.loop-row.row-index + 1) c.rows-row-items.ensures,
     )
 
@@ -55,9 +55,9 @@ loop-row-preserved c =
     let rows = c.rows-row-items.result.now in
     let i = c.loop-row.row-index in
     let lt = c.loop-row-test.true in (
-      more (λ (r : Row). r.routed) c.args.side rows i _ c.is-of-side.result c.counted-routed.result c.loop-row.routed lt c.is-of-side.ensures c.counted-routed.ensures c.loop-row.invariant.0,
-      more (λ (r : Row). r.cancelled) c.args.side rows i _ c.is-of-side.result c.counted-cancelled.result c.loop-row.cancelled lt c.is-of-side.ensures c.counted-cancelled.ensures c.loop-row.invariant.1,
-      best-more c.args.side rows i _ c.is-of-side.result c.counted.result c.loop-row.best c.better-of-best.result lt c.is-of-side.ensures c.counted.ensures c.loop-row.invariant.2 c.better-of-best.ensures,
+      more (λ (r : Row). r.routed) c.args.side rows i _ c.is-of_side.result c.counted-routed.result c.loop-row.routed lt c.is-of_side.ensures c.counted-routed.ensures c.loop-row.invariant.0,
+      more (λ (r : Row). r.cancelled) c.args.side rows i _ c.is-of_side.result c.counted-cancelled.result c.loop-row.cancelled lt c.is-of_side.ensures c.counted-cancelled.ensures c.loop-row.invariant.1,
+      best-more c.args.side rows i _ c.is-of_side.result c.counted.result c.loop-row.best c.better_of-best.result lt c.is-of_side.ensures c.counted.ensures c.loop-row.invariant.2 c.better_of-best.ensures,
     )
 
 pub returns : goal.returns
