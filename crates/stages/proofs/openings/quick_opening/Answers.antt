@@ -17,5 +17,5 @@ returns-in-Some g c =
     let x = scene (g.L.Ladder.permitted c.args.ladder.now) c.args.close rows shown in
     let found = c.choose-choice.ensures in
     let clean = quick-clean x c.in-Some.range c.choose-choice.result (g.met.L.Ladder.within c.args.ladder.now) found.best (found.crosses refl) in
-    let range : quick_range (quotes_of rows) (away_of shown) ≡ Some c.in-Some.range = ap (λ (q : Quotes). quick_range q (away_of shown)) (sym c.quotes-of.ensures) ∙ ap (quick_range c.quotes-of.result) (sym c.away-of.ensures) ∙ sym c.in-Some.ensures in
-    c.opening-cleanly.ensures ∙ clean ∙ ap (quick_at x c.in-Some.range) found.is ∙ ap (quick_in x) (sym range)
+    let range : quick_range (quotes_of rows) (away_of shown) ≡ Some c.in-Some.range = ap (λ (q : Quotes). quick_range q (away_of shown)) (sym c.quotes_of.ensures) ∙ ap (quick_range c.quotes_of.result) (sym c.away_of.ensures) ∙ sym c.in-Some.ensures in
+    c.opening_cleanly.ensures ∙ clean ∙ ap (quick_at x c.in-Some.range) found.is ∙ ap (quick_in x) (sym range)

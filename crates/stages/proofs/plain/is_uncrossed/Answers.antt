@@ -22,8 +22,8 @@ returns-then-buys-eq-RANKS g c =
     let b = c.args.book.now in
     let permitted = g.L.Ladder.permitted c.args.ladder.now in
     let within = g.met.L.Ladder.within c.args.ladder.now in
-    let buy = edge-read Buy c.rows.result.now (rows_of b) c.next-rank-buys.result c.rows.ensures (edge_of Buy (rows_of b) c.next-rank-buys.result (book-sound b)) c.next-rank-buys.ensures.next in
-    let sell = edge-read Sell c.rows-2.result.now (rows_of b) c.next-rank-sells.result c.rows-2.ensures (edge_of Sell (rows_of b) c.next-rank-sells.result (book-sound b)) c.next-rank-sells.ensures.next in
+    let buy = edge-read Buy c.rows.result.now (rows_of b) c.next_rank-buys.result c.rows.ensures (edge_of Buy (rows_of b) c.next_rank-buys.result (book-sound b)) c.next_rank-buys.ensures.next in
+    let sell = edge-read Sell c.rows-2.result.now (rows_of b) c.next_rank-sells.result c.rows-2.ensures (edge_of Sell (rows_of b) c.next_rank-sells.result (book-sound b)) c.next_rank-sells.ensures.next in
     let is = sym (elim c.then-buys-eq-RANKS.either [
       | inl e ↦ side-absent permitted (rows_of b) within Buy (subst (λ (k : ℕ). Edge Buy (rows_of b) k) e buy)
       | inr e ↦ side-absent permitted (rows_of b) within Sell (subst (λ (k : ℕ). Edge Sell (rows_of b) k) e.1 sell)
@@ -34,19 +34,19 @@ pub returns-in-Some : goal.returns-in-Some
 returns-in-Some g c =
     let b = c.args.book.now in
     let permitted = g.L.Ladder.permitted c.args.ladder.now in
-    let kb = c.next-rank-buys.result in
-    let ks = c.next-rank-sells.result in
-    let buy = edge-read Buy c.rows.result.now (rows_of b) kb c.rows.ensures (edge_of Buy (rows_of b) kb (book-sound b)) c.next-rank-buys.ensures.next in
-    let sell = edge-read Sell c.rows-2.result.now (rows_of b) ks c.rows-2.ensures (edge_of Sell (rows_of b) ks (book-sound b)) c.next-rank-sells.ensures.next in
-    let lb : kb < 100001 = omega (arith, c.next-rank-buys.ensures.next.within, c.if-buys-eq-RANKS.false) in
-    let ls : ks < 100001 = omega (arith, c.next-rank-sells.ensures.next.within, c.if-sells-eq-RANKS.false) in
+    let kb = c.next_rank-buys.result in
+    let ks = c.next_rank-sells.result in
+    let buy = edge-read Buy c.rows.result.now (rows_of b) kb c.rows.ensures (edge_of Buy (rows_of b) kb (book-sound b)) c.next_rank-buys.ensures.next in
+    let sell = edge-read Sell c.rows-2.result.now (rows_of b) ks c.rows-2.ensures (edge_of Sell (rows_of b) ks (book-sound b)) c.next_rank-sells.ensures.next in
+    let lb : kb < 100001 = omega (arith, c.next_rank-buys.ensures.next.within, c.if-buys-eq-RANKS.false) in
+    let ls : ks < 100001 = omega (arith, c.next_rank-sells.ensures.next.within, c.if-sells-eq-RANKS.false) in
     let least : Least permitted c.max.result (Some c.in-Some.price) = c.in-Some.ensures.least (priced-from c.max.result (omega (arith, c.max.ensures)) (omega (arith, c.max.ensures))) in
     let same = subst (λ (n : ℕ). Least permitted n (Some c.in-Some.price)) c.max.ensures least in
     let within = g.met.L.Ladder.within c.args.ladder.now in
-    record { is = ap (λ (n : ℕ). ltb n c.in-Some.price) c.highest-taken-top.ensures ∙ least-crosses permitted (rows_of b) within kb ks c.in-Some.price buy sell lb ls same; most = most-crossing 100000 permitted (rows_of b) within }
+    record { is = ap (λ (n : ℕ). ltb n c.in-Some.price) c.highest_taken-top.ensures ∙ least-crosses permitted (rows_of b) within kb ks c.in-Some.price buy sell lb ls same; most = most-crossing 100000 permitted (rows_of b) within }
 
 pub returns-in-None : goal.returns-in-None
 returns-in-None g c =
-    let ls : c.next-rank-sells.result < 100001 = omega (arith, c.next-rank-sells.ensures.next.within, c.if-sells-eq-RANKS.false) in
+    let ls : c.next_rank-sells.result < 100001 = omega (arith, c.next_rank-sells.ensures.next.within, c.if-sells-eq-RANKS.false) in
     let top : c.max.result ≤ 100000 = omega (arith, c.max.ensures) in
     absurd (both_ways _ (c.in-None.ensures.least (priced-from c.max.result (omega (arith, c.max.ensures)) top) 100000 top (omega arith)) (g.met.L.Ladder.top c.args.ladder.now))
