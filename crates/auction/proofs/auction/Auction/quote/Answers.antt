@@ -9,10 +9,10 @@ use Rattle.auction.proofs.auction.Auction.quote.Goals as goal
 pub returns : goal.returns
 returns g c =
     let a = c.args.self.now in
-    let b = c.set-quote.new.self in
-    let did = c.set-quote.ensures in
+    let b = c.set_quote.new.self in
+    let did = c.set_quote.ensures in
     let stays = did.stays in
-    let step = quotes (terms_of g.L.Ladder.permitted g.R.SharingRule.shares a) (view a) c.args.maker c.args.quote c.set-quote.result (rows_of b.book) b.stage b.last a.book.sound did.answer did.rows stays.stage stays.last did.effects in
+    let step = quotes (terms_of g.L.Ladder.permitted g.R.SharingRule.shares a) (view a) c.args.maker c.args.quote c.set_quote.result (rows_of b.book) b.stage b.last a.book.sound did.answer did.rows stays.stage stays.last did.effects in
     record {
       step = step;
       kept = record { ladder = stays.ladder; rule = stays.rule; settings = stays.settings };

@@ -13,10 +13,10 @@ returns-in-None g c =
     let permitted = g.L.Ladder.permitted a.ladder in
     let m = c.args.maker in
     let q = c.args.quote in
-    let set = c.set-quote.ensures in
+    let set = c.set_quote.ensures in
     let taken = quote-sets permitted (g.met.L.Ladder.within a.ladder) m q c.in-None.ensures in
     record {
-      answer = quote-taken (view a) (book_quote_cause m q) (quote_cause permitted m q) c.set-quote.result (left_of_quote m (rows_of a.book)) c.if-is-open.ensures taken c.in-None.ensures set.answer;
+      answer = quote-taken (view a) (book_quote_cause m q) (quote_cause permitted m q) c.set_quote.result (left_of_quote m (rows_of a.book)) c.if-is_open.ensures taken c.in-None.ensures set.answer;
       rows = set.table;
       effects = set.effects;
       stays = record { stage = refl; last = refl; ladder = refl; rule = refl; settings = refl };

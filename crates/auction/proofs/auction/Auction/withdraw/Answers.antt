@@ -9,10 +9,10 @@ use Rattle.auction.proofs.auction.Auction.withdraw.Goals as goal
 pub returns : goal.returns
 returns g c =
     let a = c.args.self.now in
-    let b = c.take-order.new.self in
-    let did = c.take-order.ensures in
+    let b = c.take_order.new.self in
+    let did = c.take_order.ensures in
     let stays = did.stays in
-    let step = withdraws (view a) c.args.number c.take-order.result (rows_of b.book) b.stage b.last a.book.sound did.answer did.rows stays.stage stays.last did.effects in
+    let step = withdraws (view a) c.args.number c.take_order.result (rows_of b.book) b.stage b.last a.book.sound did.answer did.rows stays.stage stays.last did.effects in
     record {
       step = step;
       kept = record { ladder = stays.ladder; rule = stays.rule; settings = stays.settings };
