@@ -1,7 +1,7 @@
 -- Lemmas on rows put in and taken out: the edits keep a table sound, and what follows for readings and sums.
 use Rattle.std.proofs.Common.{◌≡◌, ℕ, zero, suc, ◌+◌, ◌-◌, ◌*◌, ◌<◌, ◌≤◌, Bool, true, false, cond, not, ◌&&◌, ◌||◌, eqb, ltb, leb, List, [], ◌∷◌, ◌++◌, Some, None, sum_by, filter, Option, sym, refl, ap, ◌∙◌, subst, inl, inr, arith}
 use Rattle.std.specs.Option.{option_map}
-use Rattle.std.specs.List.{AllByRecursion as All}
+use Rattle.std.specs.List.{AllByRecursion}
 use Rattle.std.proofs.lemmas.Bool.{and_parts, and_from, or_left, or_right, cond-true, cond-false, cond_both, leb-true, leb-false, le-leb, lt-leb, lt-ltb, le-ltb, ltb-true, eqb-true, eqb-false, eq-eqb, ne_eqb, both_ways, cases_Bool, not-true, not-false, not_from_true, not_from_false, true≢false, false≢true}
 use Rattle.std.proofs.lemmas.Bool.Decides.{nat_tests}
 use Rattle.std.proofs.lemmas.List.{append_assoc, append-nil}
@@ -29,7 +29,7 @@ use Rattle.book.proofs.ReadFacts.{first-none, first-later, first-kept, none-stan
 
 -- filters
 
-pub kept_same : (s t : Row → Bool) (rows : List Row) → All (λ r. s r ≡ t r) rows → filter s rows ≡ filter t rows
+pub kept_same : (s t : Row → Bool) (rows : List Row) → AllByRecursion (λ r. s r ≡ t r) rows → filter s rows ≡ filter t rows
 kept_same s t [] h = refl
 kept_same s t (r ∷ rs) h =
     ap (λ (b : Bool). cond b (r ∷ filter s rs) (filter s rs)) h.0 ∙ ap (λ (ys : List Row). cond (t r) (r ∷ ys) ys) (kept_same s t rs h.1)
@@ -63,7 +63,7 @@ placed-kept keep row rows h e =
     ∙ ap (λ (ys : List Row). filter keep lows ++ ys) (cond-false (keep row) (row ∷ filter keep highs) (filter keep highs) e)
     ∙ sym (filter-append keep lows highs) ∙ ap (filter keep) (split-place row rows h)
 
-pub placed_first : (test : Row → Bool) (row : Row) (rows : List Row) → All (λ r. test r ≡ false) rows → test row ≡ true → first test (placed row rows) ≡ Some row
+pub placed_first : (test : Row → Bool) (row : Row) (rows : List Row) → AllByRecursion (λ r. test r ≡ false) rows → test row ≡ true → first test (placed row rows) ≡ Some row
 placed_first test row rows h e =
     let highs = filter (others (up_to row)) rows in
     first-later test (filter (up_to row) rows) (row ∷ highs) (all_kept_by (up_to row) (λ r. test r ≡ false) rows h)
@@ -76,7 +76,7 @@ placed-sum part test row rows =
     let highs = filter (others (up_to row)) rows in
     omega (arith, sum_by-append f lows (row ∷ highs), sum_by-cons f row highs, sum_kept f (up_to row) rows)
 
-pub all_placed : (P : Row → Type 0) (row : Row) (rows : List Row) → All P rows → P row → All P (placed row rows)
+pub all_placed : (P : Row → Type 0) (row : Row) (rows : List Row) → AllByRecursion P rows → P row → AllByRecursion P (placed row rows)
 all_placed P row rows h k = All-append P (filter (up_to row) rows) (row ∷ filter (others (up_to row)) rows) (all_kept_by (up_to row) P rows h) (k, all_kept_by (others (up_to row)) P rows h)
 
 -- rows taken out
@@ -140,7 +140,7 @@ abbrev part_of : (Row → ℕ) → Option Row → ℕ
 part_of part None = 0
 part_of part (Some r) = part r
 
-total-none : (part : Row → ℕ) (test : Row → Bool) (rows : List Row) → All (λ r. test r ≡ false) rows → total_of part test rows ≡ 0
+total-none : (part : Row → ℕ) (test : Row → Bool) (rows : List Row) → AllByRecursion (λ r. test r ≡ false) rows → total_of part test rows ≡ 0
 total-none part test [] h = refl
 total-none part test (r ∷ rs) h = omega (arith, sum_by-cons (λ (x : Row). cond (test x) (part x) 0) r rs, cond-false (test r) (part r) 0 h.0, total-none part test rs h.1)
 
@@ -157,7 +157,7 @@ total_first part test (r ∷ rs) p =
     let sum = sum_by-cons (λ (x : Row). cond (test x) (part x) 0) r rs in
     elim (cases_Bool (test r)) [
       | inl e ↦
-          let none : All (λ s. test s ≡ false) rs = All-weaker (Once test r) (λ s. test s ≡ false) (λ s o. o e) rs p.0 in
+          let none : AllByRecursion (λ s. test s ≡ false) rs = All-weaker (Once test r) (λ s. test s ≡ false) (λ s o. o e) rs p.0 in
           omega (arith, sum, cond-true (test r) (part r) 0 e, total-none part test rs none, ap (part_of part) (cond-true (test r) (Some r) (first test rs) e))
       | inr e ↦ omega (arith, sum, cond-false (test r) (part r) 0 e, total_first part test rs p.1, ap (part_of part) (cond-false (test r) (Some r) (first test rs) e))
     ]
@@ -216,7 +216,7 @@ past-cause false cause rest h = (refl, h)
 
 pub record GoodOrder (order : Order) (rows : List Row) : Type 0 where
   pub sound : sound_row (order_row order) ≡ true
-  pub fresh : All (λ r. is_order order.number r ≡ false) rows
+  pub fresh : AllByRecursion (λ r. is_order order.number r ≡ false) rows
   pub room : order_count rows < 96
 
 pub good-order : (order : Order) (rows : List Row) → add_cause order rows ≡ None → GoodOrder order rows
@@ -332,11 +332,11 @@ bid-beside m q low lt = (
   λ past. absurd (omega (arith, leb-false (2 * m - 1) (2 * m) past)),
 )
 
-module _ (m : ℕ) (quote : Quote) (rows : List Row) (h : sound_table rows ≡ true) (good : GoodQuote m quote) (none : All (λ r. is_quote_of m r ≡ false) rows) where
+module _ (m : ℕ) (quote : Quote) (rows : List Row) (h : sound_table rows ≡ true) (good : GoodQuote m quote) (none : AllByRecursion (λ r. is_quote_of m r ≡ false) rows) where
   few-rows : order_count rows ≤ 96
   few-rows = (sound-opened rows h).few
 
-  beside-all : (side : Side) (price size : ℕ) → All (Beside (quote_row m side price size)) rows
+  beside-all : (side : Side) (price size : ℕ) → AllByRecursion (Beside (quote_row m side price size)) rows
   beside-all side price size = All-weaker (λ r. is_quote_of m r ≡ false) (Beside (quote_row m side price size)) (quote-beside m side price size good.low) rows none
 
   pub sound-bid : eqb quote.bid 0 ≡ false → sound_table (placed (bid_row m quote) rows) ≡ true
@@ -398,7 +398,7 @@ module _ (m : ℕ) (quote : Quote) (rows : List Row) where
   abbrev highs : List Row
   highs = filter (after_maker m) rows
 
-  placed-side : (side : Side) (price size : ℕ) → 1 ≤ m → All (λ r. is_quote_of m r ≡ false) rows → placed (quote_row m side price size) rows ≡ lows ++ quote_row m side price size ∷ highs
+  placed-side : (side : Side) (price size : ℕ) → 1 ≤ m → AllByRecursion (λ r. is_quote_of m r ≡ false) rows → placed (quote_row m side price size) rows ≡ lows ++ quote_row m side price size ∷ highs
   placed-side side price size low none =
       let row = quote_row m side price size in
       let a : filter (up_to row) rows ≡ lows = kept_same (up_to row) (before_maker m) rows (All-weaker (λ r. is_quote_of m r ≡ false) (λ r. up_to row r ≡ before_maker m r) (λ r e. before-place m side r.owner r.side low e) rows none) in
@@ -411,8 +411,8 @@ module _ (m : ℕ) (quote : Quote) (rows : List Row) where
       let offer = offer_row m quote in
       let up = up_to offer in
       let past = others (up_to offer) in
-      let lows-up : All (λ r. up r ≡ true) lows = All-weaker (λ r. before_maker m r ≡ true) (λ r. up r ≡ true) (λ r e. before-up m r.owner r.side e) lows (kept_by_passes (before_maker m) rows) in
-      let highs-past : All (λ r. up r ≡ false) highs = All-weaker (λ r. after_maker m r ≡ true) (λ r. up r ≡ false) (λ r e. after-past m r.owner r.side e) highs (kept_by_passes (after_maker m) rows) in
+      let lows-up : AllByRecursion (λ r. up r ≡ true) lows = All-weaker (λ r. before_maker m r ≡ true) (λ r. up r ≡ true) (λ r e. before-up m r.owner r.side e) lows (kept_by_passes (before_maker m) rows) in
+      let highs-past : AllByRecursion (λ r. up r ≡ false) highs = All-weaker (λ r. after_maker m r ≡ true) (λ r. up r ≡ false) (λ r e. after-past m r.owner r.side e) highs (kept_by_passes (after_maker m) rows) in
       let bid-up : up bid ≡ true = le-leb (2 * m - 1) (2 * m) (omega arith) in
       let front : filter up (lows ++ bid ∷ highs) ≡ lows ++ bid ∷ [] =
       filter-append up lows (bid ∷ highs)
@@ -430,10 +430,10 @@ module _ (m : ℕ) (quote : Quote) (rows : List Row) where
   quoted-by : (news : List Row) → quote_rows m quote ≡ news → lows ++ (news ++ highs) ≡ quoted m quote rows
   quoted-by news e = ap (λ (ys : List Row). lows ++ (ys ++ highs)) (sym e)
 
-  pub put-offer : 1 ≤ m → All (λ r. is_quote_of m r ≡ false) rows → eqb quote.bid 0 ≡ true → placed (offer_row m quote) rows ≡ quoted m quote rows
+  pub put-offer : 1 ≤ m → AllByRecursion (λ r. is_quote_of m r ≡ false) rows → eqb quote.bid 0 ≡ true → placed (offer_row m quote) rows ≡ quoted m quote rows
   put-offer low none e = placed-side Sell quote.offer quote.offer_size low none ∙ quoted-by (offer_row m quote ∷ []) (cond-true (eqb quote.bid 0) (offer_row m quote ∷ []) (bid_row m quote ∷ offer_row m quote ∷ []) e)
 
-  pub put_both : 1 ≤ m → All (λ r. is_quote_of m r ≡ false) rows → eqb quote.bid 0 ≡ false → placed (offer_row m quote) (placed (bid_row m quote) rows) ≡ quoted m quote rows
+  pub put_both : 1 ≤ m → AllByRecursion (λ r. is_quote_of m r ≡ false) rows → eqb quote.bid 0 ≡ false → placed (offer_row m quote) (placed (bid_row m quote) rows) ≡ quoted m quote rows
   put_both low none e = ap (placed (offer_row m quote)) (placed-side Buy quote.bid quote.bid_size low none) ∙ placed-both ∙ quoted-by (bid_row m quote ∷ offer_row m quote ∷ []) (cond-false (eqb quote.bid 0) (offer_row m quote ∷ []) (bid_row m quote ∷ offer_row m quote ∷ []) e)
 
   pub quoted-fresh : quoted m quote (without_quote m rows) ≡ quoted m quote rows
@@ -442,10 +442,10 @@ module _ (m : ℕ) (quote : Quote) (rows : List Row) where
       let b : filter (after_maker m) (without_quote m rows) ≡ highs = kept-sub (after_maker m) (λ r. not (is_quote_of m r)) (λ r e. after-other m r.owner e) rows in
       ap (λ (ys : List Row). ys ++ (quote_rows m quote ++ filter (after_maker m) (without_quote m rows))) a ∙ ap (λ (ys : List Row). lows ++ (quote_rows m quote ++ ys)) b
 
-  sides-none : (test : Row → Bool) → ltb m m ≡ test (bid_row m quote) → ltb m m ≡ test (offer_row m quote) → All (λ r. test r ≡ false) (quote_rows m quote)
+  sides-none : (test : Row → Bool) → ltb m m ≡ test (bid_row m quote) → ltb m m ≡ test (offer_row m quote) → AllByRecursion (λ r. test r ≡ false) (quote_rows m quote)
   sides-none test a b =
       let never = le-ltb m m (omega arith) in
-      cond_both (eqb quote.bid 0) (offer_row m quote ∷ []) (bid_row m quote ∷ offer_row m quote ∷ []) (All (λ r. test r ≡ false)) (λ _. (sym b ∙ never, tt)) (λ _. (sym a ∙ never, (sym b ∙ never, tt)))
+      cond_both (eqb quote.bid 0) (offer_row m quote ∷ []) (bid_row m quote ∷ offer_row m quote ∷ []) (AllByRecursion (λ r. test r ≡ false)) (λ _. (sym b ∙ never, tt)) (λ _. (sym a ∙ never, (sym b ∙ never, tt)))
 
   quoted-lows : filter (before_maker m) (quoted m quote rows) ≡ lows
   quoted-lows =

@@ -1,7 +1,7 @@
 -- What follows from each call on a table, for readings and sums.
 use Rattle.std.proofs.Common.{◌≡◌, ℕ, ◌+◌, ◌≤◌, Bool, true, false, cond, not, ◌&&◌, eqb, leb, List, [], ◌∷◌, Some, None, Ok, Err, filter, sym, refl, ap, ◌∙◌, subst, inl, inr, arith}
 use Rattle.std.specs.Option.{option_map}
-use Rattle.std.specs.List.{AllByRecursion as All}
+use Rattle.std.specs.List.{AllByRecursion}
 use Rattle.std.proofs.lemmas.Bool.{and_parts, and_left, and_right, and_from, cond-true, cond-false, eq-eqb, ne_eqb, leb-true, cases_Bool, not-true, not-false, not_from_true, not_from_false}
 use Rattle.std.proofs.ByRecursion.{All-weaker, kept_by_passes}
 use Rattle.std.proofs.lemmas.List.Sums.{sum_by-cons}
@@ -78,7 +78,7 @@ quote-out m rows low h = record {
 first_past : (test : Row → Bool) (row : Row) (rows : List Row) → sound_table rows ≡ true → test row ≡ false → first test (placed row rows) ≡ first test rows
 first_past test row rows h e = sym (first-kept test test (λ r t. t) (placed row rows)) ∙ ap (first test) (placed-kept test row rows h e) ∙ first-kept test test (λ r t. t) rows
 
-pub none_left : (m : ℕ) (rows : List Row) → All (λ r. is_quote_of m r ≡ false) (without_quote m rows)
+pub none_left : (m : ℕ) (rows : List Row) → AllByRecursion (λ r. is_quote_of m r ≡ false) (without_quote m rows)
 none_left m rows = All-weaker (λ r. not (is_quote_of m r) ≡ true) (λ r. is_quote_of m r ≡ false) (λ r e. not-true (is_quote_of m r) e) (without_quote m rows) (kept_by_passes (λ r. not (is_quote_of m r)) rows)
 
 module _ (m : ℕ) (quote : Quote) (rows : List Row) (h : sound_table rows ≡ true) (good : GoodQuote m quote) where
@@ -91,10 +91,10 @@ module _ (m : ℕ) (quote : Quote) (rows : List Row) (h : sound_table rows ≡ t
   rest-sound : sound_table rest ≡ true
   rest-sound = sound-kept keep rows h
 
-  none : All (λ r. is_quote_of m r ≡ false) rest
+  none : AllByRecursion (λ r. is_quote_of m r ≡ false) rest
   none = none_left m rows
 
-  no-side : (side : Side) → All (λ r. is_quote_side m side r ≡ false) rest
+  no-side : (side : Side) → AllByRecursion (λ r. is_quote_side m side r ≡ false) rest
   no-side side = All-weaker (λ r. is_quote_of m r ≡ false) (λ r. is_quote_side m side r ≡ false) (λ r e. and_left (is_quote_of m r) (of_side side r) e) rest none
 
   own : eqb m m ≡ true

@@ -1,6 +1,6 @@
 -- Lemmas on what is read from a list of rows: the first row that passes a test, makers that quote, the best quote, sums.
 use Rattle.std.proofs.Common.{◌≡◌, ℕ, suc, ◌+◌, ◌-◌, ◌<◌, ◌≤◌, min, Bool, true, false, cond, not, ◌&&◌, eqb, leb, ◌⊎◌, List, [], ◌∷◌, ◌++◌, is_some, Some, None, sum_by, count_by, filter, Option, sym, refl, ap, ◌∙◌, subst, inl, inr, arith}
-use Rattle.std.specs.List.{AllByRecursion as All}
+use Rattle.std.specs.List.{AllByRecursion}
 use Rattle.std.proofs.lemmas.Bool.{and_parts, and_from, and_left, cond-true, cond-false, cond_both, leb-true, eq-eqb, le-ltb, both_ways, cases_Bool, true≢false, false≢true}
 use Rattle.std.proofs.lemmas.Bool.Decides.{nat_tests}
 use Rattle.std.proofs.ByRecursion.{All-weaker}
@@ -21,18 +21,18 @@ use Rattle.book.proofs.SoundFacts.{sound-owner, sound-opened, orders-first}
 
 -- the first row that passes a test
 
-pub first-none : (test : Row → Bool) (rows : List Row) → All (λ r. test r ≡ false) rows → first test rows ≡ None
+pub first-none : (test : Row → Bool) (rows : List Row) → AllByRecursion (λ r. test r ≡ false) rows → first test rows ≡ None
 first-none test [] h = refl
 first-none test (r ∷ rs) h = cond-false (test r) (Some r) (first test rs) h.0 ∙ first-none test rs h.1
 
-pub first-later : (test : Row → Bool) (xs ys : List Row) → All (λ r. test r ≡ false) xs → first test (xs ++ ys) ≡ first test ys
+pub first-later : (test : Row → Bool) (xs ys : List Row) → AllByRecursion (λ r. test r ≡ false) xs → first test (xs ++ ys) ≡ first test ys
 first-later test [] ys h = refl
 first-later test (x ∷ xs) ys h = cond-false (test x) (Some x) (first test (xs ++ ys)) h.0 ∙ first-later test xs ys h.1
 
-pub stands-none : (test : Row → Bool) (rows : List Row) → All (λ r. test r ≡ false) rows → stands test rows ≡ false
+pub stands-none : (test : Row → Bool) (rows : List Row) → AllByRecursion (λ r. test r ≡ false) rows → stands test rows ≡ false
 stands-none test rows h = ap (λ (o : Option Row). is_some o) (first-none test rows h)
 
-pub none-stands : (test : Row → Bool) (rows : List Row) → stands test rows ≡ false → All (λ r. test r ≡ false) rows
+pub none-stands : (test : Row → Bool) (rows : List Row) → stands test rows ≡ false → AllByRecursion (λ r. test r ≡ false) rows
 none-stands test [] h = tt
 none-stands test (r ∷ rs) h =
     let by : Bool → Bool = λ b. is_some (cond b (Some r) (first test rs)) in
@@ -62,7 +62,7 @@ first-kept test keep sub (r ∷ rs) =
 
 -- sums
 
-pub sum_same : (f g : Row → ℕ) (rows : List Row) → All (λ r. f r ≡ g r) rows → sum_by f rows ≡ sum_by g rows
+pub sum_same : (f g : Row → ℕ) (rows : List Row) → AllByRecursion (λ r. f r ≡ g r) rows → sum_by f rows ≡ sum_by g rows
 sum_same f g [] h = refl
 sum_same f g (r ∷ rs) h = omega (arith, sum_by-cons f r rs, sum_by-cons g r rs, h.0, sum_same f g rs h.1)
 
@@ -117,7 +117,7 @@ better-either Sell p q = elim (cases_Bool (eqb p 0)) [
 abbrev price_in : Side → Row → ℕ
 price_in side r = cond (quoted_on side r) (price_of r.limit) 0
 
-all-best : (side : Side) (rows : List Row) → All (λ r. AsGood side (best_quote side rows) (price_in side r)) rows
+all-best : (side : Side) (rows : List Row) → AllByRecursion (λ r. AsGood side (best_quote side rows) (price_in side r)) rows
 all-best side [] = tt
 all-best side (r ∷ rs) =
     (better-left side (price_in side r) (best_quote side rs), All-weaker (λ s. AsGood side (best_quote side rs) (price_in side s)) (λ s. AsGood side (best_quote side (r ∷ rs)) (price_in side s)) (λ s h. good-trans side (best_quote side (r ∷ rs)) (best_quote side rs) (price_in side s) (better-right side (price_in side r) (best_quote side rs)) h) rs (all-best side rs))
@@ -163,7 +163,7 @@ at-price side p r h good q =
     let g : AsGood side p k.0 = subst (AsGood side p) is good in
     (good-low side p k.0 k.2 g, ap (through_price side p) k.1 ∙ good-through side p k.0 k.2 g)
 
-best-row : (side : Side) (p : ℕ) (rows : List Row) → All (λ r. sound_row r ≡ true) rows → All (λ r. AsGood side p (price_in side r)) rows → All (λ r. quoted_on side r ≡ true → (1 ≤ p) × (through_price side p r.limit ≡ false)) rows
+best-row : (side : Side) (p : ℕ) (rows : List Row) → AllByRecursion (λ r. sound_row r ≡ true) rows → AllByRecursion (λ r. AsGood side p (price_in side r)) rows → AllByRecursion (λ r. quoted_on side r ≡ true → (1 ≤ p) × (through_price side p r.limit ≡ false)) rows
 best-row side p [] h g = tt
 best-row side p (r ∷ rs) h g = (at-price side p r h.0 g.0, best-row side p rs h.1 g.1)
 

@@ -1,7 +1,7 @@
 -- Lemmas on the loops over rows: the first row, counts, the best quote, totals, and rows moved by one.
 use Rattle.std.proofs.Common.{◌≡◌, ℕ, zero, suc, ◌+◌, ◌*◌, ◌<◌, ◌≤◌, Bool, true, false, cond, ◌&&◌, eqb, leb, List, [], ◌∷◌, ◌++◌, length, get_or, take, drop, set, Some, count_by, sym, refl, ap, ◌∙◌, add-one, arith}
 use lib.Seq.{take-set-lt}
-use Rattle.std.specs.List.{insert, AllByRecursion as All}
+use Rattle.std.specs.List.{insert, AllByRecursion}
 use Rattle.std.proofs.lemmas.Bool.{and_parts, cond-true, cond-false, leb-true, eqb-true, le-leb, lt-leb}
 use Rattle.std.proofs.lemmas.Bool.Decides.{nat_tests}
 use Rattle.std.proofs.lemmas.List.{drop_more, drop_all, take_more_set, get_or-take, length-take-le, take-take, get_or_default}
@@ -52,7 +52,7 @@ cond-le : (b : Bool) (n m : ℕ) → n ≤ m → cond b n 0 ≤ m
 cond-le true n m h = h
 cond-le false n m h = omega arith
 
-sizes-small : (test : Row → Bool) (rows : List Row) → every sound_row rows ≡ true → All (λ (r : Row). cond (test r) r.size 0 ≤ 1000000) rows
+sizes-small : (test : Row → Bool) (rows : List Row) → every sound_row rows ≡ true → AllByRecursion (λ (r : Row). cond (test r) r.size 0 ≤ 1000000) rows
 sizes-small test [] h = tt
 sizes-small test (r ∷ rs) h =
     let p = and_parts (sound_row r) (every sound_row rs) h in

@@ -1,6 +1,6 @@
 -- What the invariant of a table says, row by row and pair by pair, and the edits that keep it.
 use Rattle.std.proofs.Common.{◌≡◌, ℕ, zero, suc, ◌+◌, ◌<◌, ◌≤◌, Bool, true, false, cond, not, ◌||◌, eqb, leb, List, [], ◌∷◌, ◌++◌, length, take, drop, sum_by, count_by, filter, sym, refl, ap, ◌∙◌, subst, inl, inr, arith}
-use Rattle.std.specs.List.{insert, AllByRecursion as All}
+use Rattle.std.specs.List.{insert, AllByRecursion}
 use Rattle.std.proofs.lemmas.Bool.{and_parts, and_from, cond_both, cond-true, cond-false, leb-true, le-leb, both_ways, cases_Bool, not-true, not_from_false, true≢false, lt-leb}
 use Rattle.std.proofs.lemmas.List.{take_at, drop_at, length-append, length-take-le}
 use Rattle.std.proofs.ByRecursion.{All-append, All-weaker, all_kept_by}
@@ -19,13 +19,13 @@ use Rattle.book.specs.Edits.{placed}
 
 -- tests of every row
 
-pub every-all : (test : Row → Bool) (rows : List Row) → every test rows ≡ true → All (λ r. test r ≡ true) rows
+pub every-all : (test : Row → Bool) (rows : List Row) → every test rows ≡ true → AllByRecursion (λ r. test r ≡ true) rows
 every-all test [] h = tt
 every-all test (r ∷ rs) h =
     let p = and_parts (test r) (every test rs) h in
     (p.0, every-all test rs p.1)
 
-pub all-every : (test : Row → Bool) (rows : List Row) → All (λ r. test r ≡ true) rows → every test rows ≡ true
+pub all-every : (test : Row → Bool) (rows : List Row) → AllByRecursion (λ r. test r ≡ true) rows → every test rows ≡ true
 all-every test [] h = refl
 all-every test (r ∷ rs) h = and_from (test r) (every test rs) h.0 (all-every test rs h.1)
 
@@ -33,17 +33,17 @@ all-every test (r ∷ rs) h = and_from (test r) (every test rs) h.0 (all-every t
 
 abbrev pub Pairs : (Row → Row → Type 0) → List Row → Type 0
 Pairs R [] = Unit {0}
-Pairs R (r ∷ rs) = All (R r) rs × Pairs R rs
+Pairs R (r ∷ rs) = AllByRecursion (R r) rs × Pairs R rs
 
-pub pairs-append : (R : Row → Row → Type 0) (xs ys : List Row) → Pairs R xs → Pairs R ys → All (λ x. All (R x) ys) xs → Pairs R (xs ++ ys)
+pub pairs-append : (R : Row → Row → Type 0) (xs ys : List Row) → Pairs R xs → Pairs R ys → AllByRecursion (λ x. AllByRecursion (R x) ys) xs → Pairs R (xs ++ ys)
 pairs-append R [] ys p q cross = q
 pairs-append R (x ∷ xs) ys p q cross = (All-append (R x) xs ys p.0 cross.0, pairs-append R xs ys p.1 q cross.1)
 
-all-later : (P : Row → Type 0) (xs ys : List Row) → All P (xs ++ ys) → All P ys
+all-later : (P : Row → Type 0) (xs ys : List Row) → AllByRecursion P (xs ++ ys) → AllByRecursion P ys
 all-later P [] ys h = h
 all-later P (x ∷ xs) ys h = all-later P xs ys h.1
 
-pub pairs-cross : (R : Row → Row → Type 0) (xs ys : List Row) → Pairs R (xs ++ ys) → All (λ x. All (R x) ys) xs
+pub pairs-cross : (R : Row → Row → Type 0) (xs ys : List Row) → Pairs R (xs ++ ys) → AllByRecursion (λ x. AllByRecursion (R x) ys) xs
 pairs-cross R [] ys p = tt
 pairs-cross R (x ∷ xs) ys p = (all-later (R x) xs ys p.0, pairs-cross R xs ys p.1)
 
@@ -56,18 +56,18 @@ pairs-kept R test (r ∷ rs) p =
 
 -- what a filter keeps
 
-pub kept-all : (test : Row → Bool) (rows : List Row) → All (λ r. test r ≡ true) rows → filter test rows ≡ rows
+pub kept-all : (test : Row → Bool) (rows : List Row) → AllByRecursion (λ r. test r ≡ true) rows → filter test rows ≡ rows
 kept-all test [] h = refl
 kept-all test (r ∷ rs) h = cond-true (test r) (r ∷ filter test rs) (filter test rs) h.0 ∙ ap (λ (ys : List Row). r ∷ ys) (kept-all test rs h.1)
 
-pub kept-none : (test : Row → Bool) (rows : List Row) → All (λ r. test r ≡ false) rows → filter test rows ≡ []
+pub kept-none : (test : Row → Bool) (rows : List Row) → AllByRecursion (λ r. test r ≡ false) rows → filter test rows ≡ []
 kept-none test [] h = refl
 kept-none test (r ∷ rs) h = cond-false (test r) (r ∷ filter test rs) (filter test rs) h.0 ∙ kept-none test rs h.1
 
-pub all-kept-when : (test : Row → Bool) (P : Row → Type 0) (rows : List Row) → All (λ r. test r ≡ true → P r) rows → All P (filter test rows)
+pub all-kept-when : (test : Row → Bool) (P : Row → Type 0) (rows : List Row) → AllByRecursion (λ r. test r ≡ true → P r) rows → AllByRecursion P (filter test rows)
 all-kept-when test P [] h = tt
 all-kept-when test P (r ∷ rs) h =
-    cond_both (test r) (r ∷ filter test rs) (filter test rs) (All P)
+    cond_both (test r) (r ∷ filter test rs) (filter test rs) (AllByRecursion P)
     (λ e. (h.0 e, all-kept-when test P rs h.1))
     (λ _. all-kept-when test P rs h.1)
 
@@ -82,8 +82,8 @@ split-kept R test down (r ∷ rs) p =
     elim (cases_Bool (test r)) [
       | inl e ↦ ap parts e ∙ ap (λ (ys : List Row). r ∷ ys) (split-kept R test down rs p.1)
       | inr e ↦
-          let none : All (λ s. test s ≡ false) rs = All-weaker (R r) (λ s. test s ≡ false) (λ s h. elim (cases_Bool (test s)) [ inl t ↦ absurd (both_ways (test r) e (down r s h t)) | inr f ↦ f ]) rs p.0 in
-          let rest : All (λ s. others test s ≡ true) rs = All-weaker (λ s. test s ≡ false) (λ s. others test s ≡ true) (λ s f. not_from_false (test s) f) rs none in
+          let none : AllByRecursion (λ s. test s ≡ false) rs = All-weaker (R r) (λ s. test s ≡ false) (λ s h. elim (cases_Bool (test s)) [ inl t ↦ absurd (both_ways (test r) e (down r s h t)) | inr f ↦ f ]) rs p.0 in
+          let rest : AllByRecursion (λ s. others test s ≡ true) rs = All-weaker (λ s. test s ≡ false) (λ s. others test s ≡ true) (λ s f. not_from_false (test s) f) rs none in
           ap parts e ∙ ap (λ (ys : List Row). ys ++ r ∷ filter (others test) rs) (kept-none test rs none) ∙ ap (λ (ys : List Row). r ∷ ys) (kept-all (others test) rs rest)
     ]
 
@@ -103,7 +103,7 @@ pub record Fits (r s : Row) : Type 0 where
   pub below : under r.owner r.limit s ≡ true
 
 pub record Sound (rows : List Row) : Type 0 where
-  pub each : All (λ r. sound_row r ≡ true) rows
+  pub each : AllByRecursion (λ r. sound_row r ≡ true) rows
   pub pairs : Pairs Fits rows
   pub few : order_count rows ≤ 96
 
@@ -111,24 +111,24 @@ pub follows : (p : ℕ) → p ≤ following p
 follows zero = omega arith
 follows (suc n) = omega arith
 
-places-from : (from : ℕ) (rows : List Row) → in_row_order from rows ≡ true → All (λ s. from ≤ place s) rows
+places-from : (from : ℕ) (rows : List Row) → in_row_order from rows ≡ true → AllByRecursion (λ s. from ≤ place s) rows
 places-from from [] h = tt
 places-from from (r ∷ rs) h =
     let p = and_parts (leb from (place r)) (in_row_order (following (place r)) rs) h in
     let at = leb-true from (place r) p.0 in
     (at, All-weaker (λ s. following (place r) ≤ place s) (λ s. from ≤ place s) (λ s k. omega (arith, follows (place r))) rs (places-from (following (place r)) rs p.1))
 
-numbers-from : (o : Owner) (rows : List Row) → new_number o rows ≡ true → All (λ s. differs o s ≡ true) rows
+numbers-from : (o : Owner) (rows : List Row) → new_number o rows ≡ true → AllByRecursion (λ s. differs o s ≡ true) rows
 numbers-from (Order n) rows h = every-all (λ s. not (is_order n s)) rows h
 numbers-from (Quote m) [] h = tt
 numbers-from (Quote m) (r ∷ rs) h = (refl, numbers-from (Quote m) rs h)
 
-below-from : (o : Owner) (l : Limit) (rows : List Row) → below_offer o l rows ≡ true → All (λ s. under o l s ≡ true) rows
+below-from : (o : Owner) (l : Limit) (rows : List Row) → below_offer o l rows ≡ true → AllByRecursion (λ s. under o l s ≡ true) rows
 below-from (Order n) l [] h = tt
 below-from (Order n) l (r ∷ rs) h = (refl, below-from (Order n) l rs h)
 below-from (Quote m) l rows h = every-all (λ s. not (is_quote_of m s) || below_limit l s.limit) rows h
 
-all_fit : (r : Row) (rows : List Row) → All (λ s. following (place r) ≤ place s) rows → All (λ s. differs r.owner s ≡ true) rows → All (λ s. under r.owner r.limit s ≡ true) rows → All (Fits r) rows
+all_fit : (r : Row) (rows : List Row) → AllByRecursion (λ s. following (place r) ≤ place s) rows → AllByRecursion (λ s. differs r.owner s ≡ true) rows → AllByRecursion (λ s. under r.owner r.limit s ≡ true) rows → AllByRecursion (Fits r) rows
 all_fit r [] a b c = tt
 all_fit r (s ∷ ss) a b c = (record { order = a.0; number = b.0; below = c.0 }, all_fit r ss a.1 b.1 c.1)
 
@@ -148,17 +148,17 @@ sound-opened rows h =
     let d = and_parts (bids_below_offers rows) (leb (order_count rows) 96) c.1 in
     record { each = every-all sound_row rows a.0; pairs = pairs-fit 0 rows b.0 c.0 d.0; few = leb-true (order_count rows) 96 d.1 }
 
-order-closed : (from : ℕ) (rows : List Row) → All (λ s. from ≤ place s) rows → Pairs Fits rows → in_row_order from rows ≡ true
+order-closed : (from : ℕ) (rows : List Row) → AllByRecursion (λ s. from ≤ place s) rows → Pairs Fits rows → in_row_order from rows ≡ true
 order-closed from [] a p = refl
 order-closed from (r ∷ rs) a p =
     and_from (leb from (place r)) (in_row_order (following (place r)) rs) (le-leb from (place r) a.0)
     (order-closed (following (place r)) rs (All-weaker (Fits r) (λ s. following (place r) ≤ place s) (λ s f. f.order) rs p.0) p.1)
 
-numbers-closed : (o : Owner) (rows : List Row) → All (λ s. differs o s ≡ true) rows → new_number o rows ≡ true
+numbers-closed : (o : Owner) (rows : List Row) → AllByRecursion (λ s. differs o s ≡ true) rows → new_number o rows ≡ true
 numbers-closed (Order n) rows h = all-every (λ s. not (is_order n s)) rows h
 numbers-closed (Quote m) rows h = refl
 
-below-closed : (o : Owner) (l : Limit) (rows : List Row) → All (λ s. under o l s ≡ true) rows → below_offer o l rows ≡ true
+below-closed : (o : Owner) (l : Limit) (rows : List Row) → AllByRecursion (λ s. under o l s ≡ true) rows → below_offer o l rows ≡ true
 below-closed (Order n) l rows h = refl
 below-closed (Quote m) l rows h = all-every (λ s. not (is_quote_of m s) || below_limit l s.limit) rows h
 
@@ -170,7 +170,7 @@ bids-closed : (rows : List Row) → Pairs Fits rows → bids_below_offers rows �
 bids-closed [] p = refl
 bids-closed (r ∷ rs) p = and_from (below_offer r.owner r.limit rs) (bids_below_offers rs) (below-closed r.owner r.limit rs (All-weaker (Fits r) (λ s. under r.owner r.limit s ≡ true) (λ s f. f.below) rs p.0)) (bids-closed rs p.1)
 
-all-least : (rows : List Row) → All (λ s. 0 ≤ place s) rows
+all-least : (rows : List Row) → AllByRecursion (λ s. 0 ≤ place s) rows
 all-least [] = tt
 all-least (r ∷ rs) = (omega arith, all-least rs)
 
@@ -220,16 +220,16 @@ sound-owner r h =
 row-places : (r : Row) → sound_row r ≡ true → (order_owned r.owner ≡ false → 1 ≤ place r) × (place r ≤ 32)
 row-places r h = owner-places r.owner r.side r.limit r.class (sound-owner r h)
 
-quotes-few : (from : ℕ) (rows : List Row) → 1 ≤ from → from ≤ 33 → All (λ s. from ≤ place s) rows → Pairs Fits rows → All (λ r. sound_row r ≡ true) rows → length rows + from ≤ 33
+quotes-few : (from : ℕ) (rows : List Row) → 1 ≤ from → from ≤ 33 → AllByRecursion (λ s. from ≤ place s) rows → Pairs Fits rows → AllByRecursion (λ r. sound_row r ≡ true) rows → length rows + from ≤ 33
 quotes-few from [] low high a p h = omega arith
 quotes-few from (r ∷ rs) low high a p h =
     let up = (row-places r h.0).1 in
     let here = a.0 in
     let step : following (place r) ≡ suc (place r) = following-past (place r) (omega arith) in
-    let later : All (λ s. suc (place r) ≤ place s) rs = All-weaker (Fits r) (λ s. suc (place r) ≤ place s) (λ s f. omega (arith, f.order)) rs p.0 in
+    let later : AllByRecursion (λ s. suc (place r) ≤ place s) rs = All-weaker (Fits r) (λ s. suc (place r) ≤ place s) (λ s f. omega (arith, f.order)) rs p.0 in
     omega (arith, quotes-few (suc (place r)) rs (omega arith) (omega arith) later p.1 h.1)
 
-rows_few : (rows : List Row) → Pairs Fits rows → All (λ r. sound_row r ≡ true) rows → length rows ≤ order_count rows + 32
+rows_few : (rows : List Row) → Pairs Fits rows → AllByRecursion (λ r. sound_row r ≡ true) rows → length rows ≤ order_count rows + 32
 rows_few [] p h = omega arith
 rows_few (r ∷ rs) p h =
     let ones : Row → ℕ = λ (x : Row). cond (order_owned x.owner) 1 0 in
@@ -241,7 +241,7 @@ rows_few (r ∷ rs) p h =
           let low = at.0 e in
           let up = at.1 in
           let step : following (place r) ≡ suc (place r) = following-past (place r) low in
-          let later : All (λ s. suc (place r) ≤ place s) rs = All-weaker (Fits r) (λ s. suc (place r) ≤ place s) (λ s f. omega (arith, f.order)) rs p.0 in
+          let later : AllByRecursion (λ s. suc (place r) ≤ place s) rs = All-weaker (Fits r) (λ s. suc (place r) ≤ place s) (λ s f. omega (arith, f.order)) rs p.0 in
           omega (arith, quotes-few (suc (place r)) rs (omega arith) (omega arith) later p.1 h.1)
     ]
 
@@ -256,12 +256,12 @@ owner-first : (o : Owner) (side : Side) (l : Limit) (c : Class) → sound_owner 
 owner-first (Order n) side l c h = refl
 owner-first (Quote m) side l c h = sym (lt-leb (place_by (Quote m) side) 0 ((owner-places (Quote m) side l c h).0 refl))
 
-pub orders-first : (rows : List Row) → All (λ r. sound_row r ≡ true) rows → All (λ r. order_owned r.owner ≡ leb (place r) 0) rows
+pub orders-first : (rows : List Row) → AllByRecursion (λ r. sound_row r ≡ true) rows → AllByRecursion (λ r. order_owned r.owner ≡ leb (place r) 0) rows
 orders-first rows h = All-weaker (λ r. sound_row r ≡ true) (λ r. order_owned r.owner ≡ leb (place r) 0) (λ r k. owner-first r.owner r.side r.limit r.class (sound-owner r k)) rows h
 
 -- a row put in its place
 
-all_both : (P Q : Row → Type 0) (rows : List Row) → All P rows → All Q rows → All (λ r. P r × Q r) rows
+all_both : (P Q : Row → Type 0) (rows : List Row) → AllByRecursion P rows → AllByRecursion Q rows → AllByRecursion (λ r. P r × Q r) rows
 all_both P Q [] a b = tt
 all_both P Q (r ∷ rs) a b = ((a.0, b.0), all_both P Q rs a.1 b.1)
 
@@ -292,19 +292,19 @@ length-placed row rows = omega (arith, length-append (filter (up_to row) rows) (
 abbrev pub Beside : Row → Row → Type 0
 Beside row r = (up_to row r ≡ true → Fits r row) × (up_to row r ≡ false → Fits row r)
 
-pub sound-placed : (row : Row) (rows : List Row) → sound_table rows ≡ true → sound_row row ≡ true → cond (order_owned row.owner) 1 0 + order_count rows ≤ 96 → All (Beside row) rows → sound_table (placed row rows) ≡ true
+pub sound-placed : (row : Row) (rows : List Row) → sound_table rows ≡ true → sound_row row ≡ true → cond (order_owned row.owner) 1 0 + order_count rows ≤ 96 → AllByRecursion (Beside row) rows → sound_table (placed row rows) ≡ true
 sound-placed row rows h good room beside =
     let s = sound-opened rows h in
     let lows = filter (up_to row) rows in
     let highs = filter (others (up_to row)) rows in
-    let near : All (λ r. Fits r row) lows = all-kept-when (up_to row) (λ r. Fits r row) rows (All-weaker (Beside row) (λ r. up_to row r ≡ true → Fits r row) (λ r b. b.0) rows beside) in
-    let far : All (Fits row) highs = all-kept-when (others (up_to row)) (Fits row) rows (All-weaker (Beside row) (λ r. others (up_to row) r ≡ true → Fits row r) (λ r b e. b.1 (not-true (up_to row r) e)) rows beside) in
-    let cross : All (λ r. All (Fits r) highs) lows = pairs-cross Fits lows highs (subst (Pairs Fits) (sym (split-place row rows h)) s.pairs) in
+    let near : AllByRecursion (λ r. Fits r row) lows = all-kept-when (up_to row) (λ r. Fits r row) rows (All-weaker (Beside row) (λ r. up_to row r ≡ true → Fits r row) (λ r b. b.0) rows beside) in
+    let far : AllByRecursion (Fits row) highs = all-kept-when (others (up_to row)) (Fits row) rows (All-weaker (Beside row) (λ r. others (up_to row) r ≡ true → Fits row r) (λ r b e. b.1 (not-true (up_to row r) e)) rows beside) in
+    let cross : AllByRecursion (λ r. AllByRecursion (Fits r) highs) lows = pairs-cross Fits lows highs (subst (Pairs Fits) (sym (split-place row rows h)) s.pairs) in
     let ones : Row → ℕ = λ (r : Row). cond (order_owned r.owner) 1 0 in
     let few : order_count (placed row rows) ≤ 96 = omega (arith, room, sum_by-append ones lows (row ∷ highs), sum_by-cons ones row highs, sum_kept ones (up_to row) rows) in
     sound-closed (placed row rows) (record {
       each = All-append (λ r. sound_row r ≡ true) lows (row ∷ highs) (all_kept_by (up_to row) (λ r. sound_row r ≡ true) rows s.each) (good, all_kept_by (others (up_to row)) (λ r. sound_row r ≡ true) rows s.each);
-      pairs = pairs-append Fits lows (row ∷ highs) (pairs-kept Fits (up_to row) rows s.pairs) (far, pairs-kept Fits (others (up_to row)) rows s.pairs) (all_both (λ r. Fits r row) (λ r. All (Fits r) highs) lows near cross);
+      pairs = pairs-append Fits lows (row ∷ highs) (pairs-kept Fits (up_to row) rows s.pairs) (far, pairs-kept Fits (others (up_to row)) rows s.pairs) (all_both (λ r. Fits r row) (λ r. AllByRecursion (Fits r) highs) lows near cross);
       few = few;
     })
 

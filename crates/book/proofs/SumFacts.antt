@@ -1,6 +1,6 @@
 -- Sums over the rows: a bound, a row more, and how they move with the price.
 use Rattle.std.proofs.Common.{◌≡◌, ℕ, ◌+◌, ◌<◌, ◌≤◌, Bool, true, false, cond, ◌&&◌, eqb, leb, List, [], ◌∷◌, length, get_or, take, sym, refl, arith, length-take}
-use Rattle.std.specs.List.{AllByRecursion as All}
+use Rattle.std.specs.List.{AllByRecursion}
 use Rattle.std.proofs.lemmas.List.Sums.{sum_by_more, sum_by-take-le, sum_by-cons}
 use Rattle.std.proofs.ByRecursion.{sum_by_le, All-weaker}
 use Rattle.std.proofs.lemmas.Bool.{leb-true, eqb-true, le-leb, lt-ltb, and_parts, and_from}
@@ -17,7 +17,7 @@ use Rattle.book.specs.Ranks.{contracts, of_side, can_route, routable_class, take
 use Rattle.book.specs.Books.{rows_of}
 use Rattle.book.specs.Sums.{limited_at}
 
-pub every-all : (test : Row → Bool) (rows : List Row) → every test rows ≡ true → All (λ r. test r ≡ true) rows
+pub every-all : (test : Row → Bool) (rows : List Row) → every test rows ≡ true → AllByRecursion (λ r. test r ≡ true) rows
 every-all test [] e = tt
 every-all test (r ∷ rs) e = let x = and_parts (test r) (every test rs) e in (x.0, every-all test rs x.1)
 

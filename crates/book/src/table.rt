@@ -1,6 +1,6 @@
 //! What is done to a table.
 ghost use Rattle.std.specs.Prelude.{◌≡◌, true, false, not, [], is_ok, IfOk, if◌then◌else◌, None, filter, OnOk};
-ghost use Rattle.std.specs.List.{AllByRecursion as All};
+ghost use Rattle.std.specs.List.{AllByRecursion};
 ghost use Rattle.book.specs.Rows.{sound_table, bounded_limit, is_quote_of};
 ghost use Rattle.book.specs.Books.{rows_of};
 ghost use Rattle.book.specs.Reads.{seeks, first};
@@ -223,7 +223,7 @@ impl Book {
     /// Puts in the sides of a quote whose maker has none.
     fn put_quote(&mut self, maker: u32, quote: Quote)
         requires good { quote_cause maker quote ≡ None }
-        requires fresh { All (λ x. is_quote_of maker x ≡ false) (rows_of self.old) }
+        requires fresh { AllByRecursion (λ x. is_quote_of maker x ≡ false) (rows_of self.old) }
         ensures { rows_of self.new ≡ quoted maker quote (rows_of self.old) }
     {
         if quote.bid > 0 {

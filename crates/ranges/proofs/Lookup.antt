@@ -1,13 +1,13 @@
 -- The look-up in the table of bands: what it finds, and that a higher bid never finds smaller widths.
 use Rattle.std.proofs.Common.{◌≡◌, ℕ, zero, suc, ◌<◌, ◌≤◌, Bool, true, false, cond, leb, ◌⊎◌, List, [], ◌∷◌, ◌++◌, length, get_or, sym, refl, ap, ◌∙◌, subst, inl, inr, suc-le-suc, arith, rules}
 use Rattle.std.proofs.lemmas.Bool.Decides.{leb_tells, nat_tests}
-use Rattle.std.specs.List.{AllByRecursion as All}
+use Rattle.std.specs.List.{AllByRecursion}
 use Rattle.ranges.specs.declared.Band.{Band}
 use Rattle.ranges.specs.Bands.{lowest_band, higher_bands, band_table, last_reached, band_of, LastReached, NoNarrower}
 
 -- a walk from b over xs ends at b, with all of xs out of reach, or at the last of xs that is reached
 abbrev Ends : ℕ → List Band → Band → Band → Type 0
-Ends bid xs b r = ((r ≡ b) × All (λ x. bid < x.from) xs) ⊎ LastReached xs bid r
+Ends bid xs b r = ((r ≡ b) × AllByRecursion (λ x. bid < x.from) xs) ⊎ LastReached xs bid r
 
 one-before : (bid : ℕ) (x : Band) (xs : List Band) (r : Band) → LastReached xs bid r → LastReached (x ∷ xs) bid r
 one-before bid x xs r l =

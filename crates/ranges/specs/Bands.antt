@@ -1,6 +1,6 @@
 -- The five bands by bid, and the rule by which a bid has its band.
 use Rattle.std.specs.Prelude.{◌≡◌, ℕ, ◌-◌, ◌<◌, ◌≤◌, Bool, cond, ◌&&◌, List, [], ◌∷◌, ◌++◌, nat_le}
-use Rattle.std.specs.List.{AllByRecursion as All}
+use Rattle.std.specs.List.{AllByRecursion}
 use Rattle.ranges.specs.declared.Band.{Band}
 use Rattle.ranges.specs.declared.Quotes.{Quotes}
 
@@ -32,7 +32,7 @@ pub record LastReached (xs : List Band) (bid : ℕ) (b : Band) : Type 0 where
   pub after : List Band
   pub table : xs ≡ before ++ (b ∷ after)
   pub starts : b.from ≤ bid
-  pub beyond : All (λ x. bid < x.from) after
+  pub beyond : AllByRecursion (λ x. bid < x.from) after
 
 -- no width of x is smaller than that of b
 pub record NoNarrower (b x : Band) : Type 0 where

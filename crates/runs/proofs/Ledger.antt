@@ -1,6 +1,6 @@
 -- What every run keeps, by induction on the run.
 use Rattle.std.proofs.Common.{◌≡◌, ℕ, zero, suc, ◌+◌, ◌-◌, ◌<◌, ◌≤◌, Bool, true, false, cond, not, ◌&&◌, eqb, leb, ◌⊎◌, List, [], ◌∷◌, ◌++◌, map, Some, None, Ok, Err, filter, Option, Result, sym, refl, ap, ◌∙◌, subst, inl, inr, arith}
-use Rattle.std.specs.List.{AllByRecursion as All}
+use Rattle.std.specs.List.{AllByRecursion}
 use Rattle.std.proofs.lemmas.Bool.{and_parts, not-false, leb-true, cond-true, cases_Bool, both_ways}
 use Rattle.interest.specs.declared.Side.{Side}
 use Rattle.interest.specs.declared.Side.TheVariants.{Buy, Sell}
@@ -123,8 +123,8 @@ module _ (terms : Terms) (h : List Event) (s : State) (l : Led terms h s) where
   ]
 
   -- before the opening nothing of a row is traded, routed or cancelled
-  fresh-rows : is_open s.stage ≡ false → All Fresh s.rows
-  fresh-rows shut = subst (All Fresh) (sym (l.found shut)) (fresh-standing h)
+  fresh-rows : is_open s.stage ≡ false → AllByRecursion Fresh s.rows
+  fresh-rows shut = subst (AllByRecursion Fresh) (sym (l.found shut)) (fresh-standing h)
 
   -- a call that is refused
   refused : (e : Event) (t : State) → t ≡ s → standing (e ∷ h) ≡ standing h → stage_in terms.settings (e ∷ h) ≡ stage_in terms.settings h → last_in (e ∷ h) ≡ last_in h

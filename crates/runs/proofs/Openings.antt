@@ -1,6 +1,6 @@
 -- What an opening comes to, from rows as accepted: its report, what it leaves away, and its trade.
 use Rattle.std.proofs.Common.{◌≡◌, ℕ, suc, ◌+◌, ◌-◌, ◌<◌, ◌≤◌, min, Bool, true, false, cond, ◌&&◌, eqb, leb, List, [], ◌∷◌, length, get_or, Some, None, Option, unwrap_or, sym, refl, ap, ◌∙◌, subst, inl, inr, arith}
-use Rattle.std.specs.List.{AllByRecursion as All}
+use Rattle.std.specs.List.{AllByRecursion}
 use Rattle.std.proofs.lemmas.Bool.{and_parts, both_ways, cases_lt, cond_both, eqb-true, leb-true}
 use Rattle.interest.specs.declared.Side.{Side}
 use Rattle.interest.specs.declared.Side.TheVariants.{Buy, Sell}
@@ -71,7 +71,7 @@ told-bound (Some x) p e = by (priced x) refl e
     by false f g = let z : ◌≡◌ {A = ℕ} 0 1 = cc in absurd (omega arith)
 
 -- rows of which none has traded, and none trades
-untraded-rows : (side : Side) (found left : List Row) → SameRows found left → All Fresh found → ((i : ℕ) (d : Row) → i < length found → (get_or found i d).traded < (get_or left i d).traded → ⊥) → traded_on side left ≡ 0
+untraded-rows : (side : Side) (found left : List Row) → SameRows found left → AllByRecursion Fresh found → ((i : ℕ) (d : Row) → i < length found → (get_or found i d).traded < (get_or left i d).traded → ⊥) → traded_on side left ≡ 0
 untraded-rows side [] [] same fresh none = refl
 untraded-rows side [] (s ∷ left) same fresh none = absurd same
 untraded-rows side (r ∷ found) [] same fresh none = absurd same
@@ -81,7 +81,7 @@ untraded-rows side (r ∷ found) (s ∷ left) same fresh none =
     let head : cond (of_side side s) s.traded 0 ≡ 0 = cond_both (of_side side s) s.traded 0 (λ (n : ℕ). n ≡ 0) (λ _. zero-traded) (λ _. refl) in
     omega (arith, head, rest, total-cons (λ (x : Row). x.traded) (of_side side) s left)
 
-module _ (terms : Terms) (k : Tick) (o : Opening) (found left : List Row) (fresh : All Fresh found) (fair : Fair (scene terms.permitted terms.settings.close found k.before) o) (carried : Carried o k found left) where
+module _ (terms : Terms) (k : Tick) (o : Opening) (found left : List Row) (fresh : AllByRecursion Fresh found) (fair : Fair (scene terms.permitted terms.settings.close found k.before) o) (carried : Carried o k found left) where
   trade-at : (told : Option ℕ) → priced_only o.price ≡ told → 0 < unwrap_or told 0 → Trade terms k (report_of o told left) found left
   trade-at None e pos = absurd (omega arith)
   trade-at (Some p) e pos =

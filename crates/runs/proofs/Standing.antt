@@ -1,6 +1,6 @@
 -- How a call's edit of the rows acts on the rows that stand: the orders, then the rows of the quotes by maker.
 use Rattle.std.proofs.Common.{◌≡◌, ℕ, zero, suc, ◌+◌, ◌<◌, ◌≤◌, Bool, true, false, cond, not, eqb, ltb, ◌⊎◌, List, [], ◌∷◌, ◌++◌, map, Some, None, filter, Option, sym, refl, ap, ◌∙◌, inl, inr, arith}
-use Rattle.std.specs.List.{AllByRecursion as All}
+use Rattle.std.specs.List.{AllByRecursion}
 use Rattle.std.proofs.lemmas.Bool.{cond-true, cond-false, cond_both, cases_eq, eq-eqb, ne_eqb, lt-ltb, le-ltb, not_from_true, not_from_false}
 use Rattle.std.proofs.lemmas.List.{append_assoc, append-nil, map_push}
 use Rattle.std.proofs.lemmas.List.Elements.{filter-append}
@@ -17,22 +17,22 @@ use Rattle.runs.specs.Histories.{has_number, rows_of_quote, makers_rows}
 
 -- what holds of every row
 
-all-orders : (P : Row → Type 0) → ((o : Order) → P (order_row o)) → (os : List Order) → All P (map order_row os)
+all-orders : (P : Row → Type 0) → ((o : Order) → P (order_row o)) → (os : List Order) → AllByRecursion P (map order_row os)
 all-orders P h [] = tt
 all-orders P h (o ∷ os) = (h o, all-orders P h os)
 
-all-quote : (P : Row → Type 0) (m : ℕ) → ((side : Side) (price size : ℕ) → P (quote_row m side price size)) → (x : Option Quote) → All P (rows_of_quote m x)
+all-quote : (P : Row → Type 0) (m : ℕ) → ((side : Side) (price size : ℕ) → P (quote_row m side price size)) → (x : Option Quote) → AllByRecursion P (rows_of_quote m x)
 all-quote P m h None = tt
 all-quote P m h (Some q) =
-    cond_both (eqb q.bid 0) (offer_row m q ∷ []) (bid_row m q ∷ offer_row m q ∷ []) (All P)
+    cond_both (eqb q.bid 0) (offer_row m q ∷ []) (bid_row m q ∷ offer_row m q ∷ []) (AllByRecursion P)
     (λ _. (h Sell q.offer q.offer_size, tt))
     (λ _. (h Buy q.bid q.bid_size, (h Sell q.offer q.offer_size, tt)))
 
-all-makers : (P : Row → Type 0) (f : ℕ → Option Quote) (from n : ℕ) → ((m : ℕ) → from ≤ m → (side : Side) (price size : ℕ) → P (quote_row m side price size)) → All P (makers_rows f from n)
+all-makers : (P : Row → Type 0) (f : ℕ → Option Quote) (from n : ℕ) → ((m : ℕ) → from ≤ m → (side : Side) (price size : ℕ) → P (quote_row m side price size)) → AllByRecursion P (makers_rows f from n)
 all-makers P f from zero h = tt
 all-makers P f from (suc n) h = All-append P (rows_of_quote from (f from)) (makers_rows f (suc from) n) (all-quote P from (h from (omega arith)) (f from)) (all-makers P f (suc from) n (λ m le. h m (omega arith)))
 
-pub all-standing : (P : Row → Type 0) → ((o : Order) → P (order_row o)) → ((m : ℕ) (side : Side) (price size : ℕ) → P (quote_row m side price size)) → (os : List Order) (f : ℕ → Option Quote) (from n : ℕ) → All P (map order_row os ++ makers_rows f from n)
+pub all-standing : (P : Row → Type 0) → ((o : Order) → P (order_row o)) → ((m : ℕ) (side : Side) (price size : ℕ) → P (quote_row m side price size)) → (os : List Order) (f : ℕ → Option Quote) (from n : ℕ) → AllByRecursion P (map order_row os ++ makers_rows f from n)
 all-standing P a b os f from n = All-append P (map order_row os) (makers_rows f from n) (all-orders P a os) (all-makers P f from n (λ m le. b m))
 
 -- a filter over the orders and the quotes

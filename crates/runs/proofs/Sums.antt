@@ -1,6 +1,6 @@
 -- Sums over the rows: what they hold, and that nothing of a row that stands is traded, routed or cancelled.
 use Rattle.std.proofs.Common.{◌≡◌, ℕ, ◌+◌, ◌-◌, Bool, true, false, cond, ◌&&◌, eqb, List, [], ◌∷◌, ◌++◌, map, Some, None, Option, sym, refl, ap, ◌∙◌, subst, inl, inr, arith}
-use Rattle.std.specs.List.{AllByRecursion as All}
+use Rattle.std.specs.List.{AllByRecursion}
 use Rattle.std.proofs.lemmas.Bool.{and_parts, cond-true, cond-false, cases_Bool, eqb-true}
 use Rattle.std.proofs.ByRecursion.{All-weaker}
 use Rattle.std.proofs.lemmas.List.Sums.{sum_by-cons}
@@ -61,31 +61,31 @@ same-held side (x ∷ xs) (y ∷ ys) same =
 abbrev pub Fresh : Row → Type 0
 Fresh r = (r.traded ≡ 0) × (r.routed ≡ 0) × (r.cancelled ≡ 0)
 
-pub fresh-standing : (h : List Event) → All Fresh (standing h)
+pub fresh-standing : (h : List Event) → AllByRecursion Fresh (standing h)
 fresh-standing h = all-standing Fresh (λ o. (refl, refl, refl)) (λ m side price size. (refl, refl, refl)) (orders_in h) (quote_in h) 1 16
 
 no_more : (b : Bool) (n : ℕ) → n ≡ 0 → cond b n 0 ≡ 0
 no_more true n e = e
 no_more false n e = refl
 
-none-total : (part : Row → ℕ) (test : Row → Bool) (rows : List Row) → All (λ r. part r ≡ 0) rows → total_of part test rows ≡ 0
+none-total : (part : Row → ℕ) (test : Row → Bool) (rows : List Row) → AllByRecursion (λ r. part r ≡ 0) rows → total_of part test rows ≡ 0
 none-total part test [] h = refl
 none-total part test (r ∷ rows) h = omega (arith, total-cons part test r rows, no_more (test r) (part r) h.0, none-total part test rows h.1)
 
-pub none-traded : (side : Side) (rows : List Row) → All Fresh rows → traded_on side rows ≡ 0
+pub none-traded : (side : Side) (rows : List Row) → AllByRecursion Fresh rows → traded_on side rows ≡ 0
 none-traded side rows h = none-total (λ (r : Row). r.traded) (of_side side) rows (All-weaker Fresh (λ (r : Row). r.traded ≡ 0) (λ r f. f.0) rows h)
 
-pub none-routed : (side : Side) (rows : List Row) → All Fresh rows → routed_on side rows ≡ 0
+pub none-routed : (side : Side) (rows : List Row) → AllByRecursion Fresh rows → routed_on side rows ≡ 0
 none-routed side rows h = none-total (λ (r : Row). r.routed) (of_side side) rows (All-weaker Fresh (λ (r : Row). r.routed ≡ 0) (λ r f. f.1) rows h)
 
 fresh-held : (r : Row) → Fresh r → held r ≡ r.left
 fresh-held r f = omega arith
 
 -- all that it holds is left
-pub fresh-left : (test : Row → Bool) (rows : List Row) → All Fresh rows → total_of held test rows ≡ contracts test rows
+pub fresh-left : (test : Row → Bool) (rows : List Row) → AllByRecursion Fresh rows → total_of held test rows ≡ contracts test rows
 fresh-left test rows h = sum_same (λ (r : Row). cond (test r) (held r) 0) (λ (r : Row). cond (test r) r.left 0) rows (All-weaker Fresh (λ (r : Row). cond (test r) (held r) 0 ≡ cond (test r) r.left 0) (λ r f. ap (λ (n : ℕ). cond (test r) n 0) (fresh-held r f)) rows h)
 
-first_holds : (P : Row → Type 0) (test : Row → Bool) (rows : List Row) (row : Row) → All P rows → first test rows ≡ Some row → P row
+first_holds : (P : Row → Type 0) (test : Row → Bool) (rows : List Row) (row : Row) → AllByRecursion P rows → first test rows ≡ Some row → P row
 first_holds P test [] row h e = let z : ◌≡◌ {A = ℕ} 0 1 = cc in absurd (omega arith)
 first_holds P test (r ∷ rows) row h e = by (test r) (first_holds P test rows row h.1) e
   where
@@ -94,7 +94,7 @@ first_holds P test (r ∷ rows) row h e = by (test r) (first_holds P test rows r
     by false later found = later found
 
 -- what is taken back of an order
-pub order-back : (n : ℕ) (side : Side) (rows : List Row) (row : Row) → sound_table rows ≡ true → All Fresh rows → first (is_order n) rows ≡ Some row → total_of held (λ r. is_order n r && of_side side r) rows ≡ back_from side (Some row) row.left
+pub order-back : (n : ℕ) (side : Side) (rows : List Row) (row : Row) → sound_table rows ≡ true → AllByRecursion Fresh rows → first (is_order n) rows ≡ Some row → total_of held (λ r. is_order n r && of_side side r) rows ≡ back_from side (Some row) row.left
 order-back n side rows row sound fresh e =
     let part : Row → ℕ = λ r. cond (of_side side r) (held r) 0 in
     let split : (a b : Bool) (x : ℕ) → cond (a && b) x 0 ≡ cond a (cond b x 0) 0 = λ a b x. elim a as (λ a. cond (a && b) x 0 ≡ cond a (cond b x 0) 0) [ true ↦ refl | false ↦ refl ] in

@@ -1,5 +1,5 @@
 use Rattle.std.proofs.Common.{◌≡◌, false, List, Ok, Option, sym, ap, ◌∙◌, subst}
-use Rattle.std.specs.List.{AllByRecursion as All}
+use Rattle.std.specs.List.{AllByRecursion}
 use Rattle.interest.specs.declared.Refusal.{Refusal}
 use Rattle.book.specs.declared.row.Row.{Row}
 use Rattle.book.specs.declared.row.TakenBack.{TakenBack}
@@ -16,7 +16,7 @@ put_quote-requires c =
     let m = c.args.maker in
     record {
       good = sym c.in-None.ensures;
-      fresh = subst (All (λ (r : Row). is_quote_of m r ≡ false)) (sym c.take_away.ensures) (none_left m (rows_of c.args.self.now));
+      fresh = subst (AllByRecursion (λ (r : Row). is_quote_of m r ≡ false)) (sym c.take_away.ensures) (none_left m (rows_of c.args.self.now));
     }
 
 pub returns-in-None : goal.returns-in-None
