@@ -1,5 +1,5 @@
 -- Calls that edit the table: what the book does is what the rules say.
-use Rattle.std.proofs.Common.{◌≡◌, ℕ, Bool, true, false, cond, not, ◌&&◌, ◌||◌, eqb, leb, List, is_ok, IfOk, Some, None, Ok, Err, Option, Result, sym, ap, ◌∙◌, inl, inr}
+use Rattle.std.proofs.Common.{◌≡◌, ℕ, Bool, true, false, cond, not, ◌||◌, eqb, leb, List, is_ok, IfOk, None, Ok, Err, Option, Result, sym, ap, ◌∙◌, inl, inr}
 use Rattle.std.proofs.lemmas.Bool.{cond-false, and_parts, and_from, or_cases, or_left, or_right, not-false, not_from_true}
 use Rattle.interest.specs.Bounds.{priced, maker_numbered}
 use Rattle.interest.specs.declared.Refusal.{Refusal}

@@ -24,7 +24,7 @@ use Rattle.book.specs.Ranks.{of_side, total_of, contracts}
 use Rattle.book.specs.Reads.{is_quote_side, first, stands, reading_of}
 use Rattle.book.specs.Edits.{of_order, owned_before, owned_after, before_maker, after_maker, order_row, quote_row, bid_row, offer_row, quote_rows, placed, added, without_quote, quoted, add_cause, sized_quote, priced_quote, quote_cause, left_in}
 use Rattle.book.specs.Effects.{OthersStay, untouched, accepted_in}
-use Rattle.book.proofs.SoundFacts.{Pairs, Fits, Beside, up_to, others, differs, under, follows, sound-opened, sound-placed, split-place, sum_kept, orders-first, every-all, kept-all, kept-none}
+use Rattle.book.proofs.SoundFacts.{Pairs, Fits, Beside, up_to, others, differs, under, sound-opened, sound-placed, split-place, sum_kept, orders-first, every-all, kept-all, kept-none}
 use Rattle.book.proofs.ReadFacts.{first-none, first-later, first-kept, none-stands, sum_same}
 
 -- filters

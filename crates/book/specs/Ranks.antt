@@ -1,5 +1,5 @@
 -- Which rows a price reaches, rank, and sums of contracts, for either side.
-use Rattle.std.specs.Prelude.{ℕ, suc, ◌+◌, ◌-◌, Bool, true, false, cond, ◌&&◌, List, sum_by, ◌==◌, nat_le, nat_lt}
+use Rattle.std.specs.Prelude.{ℕ, suc, ◌-◌, Bool, true, false, cond, ◌&&◌, List, sum_by, ◌==◌, nat_le, nat_lt}
 use Rattle.interest.specs.declared.Side.{Side}
 use Rattle.interest.specs.declared.Side.TheVariants.{Buy, Sell}
 use Rattle.interest.specs.declared.Class.{Class}

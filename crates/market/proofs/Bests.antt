@@ -1,5 +1,5 @@
 -- `best_of` is determined by what it says, and says it.
-use Rattle.std.proofs.Common.{◌≡◌, ℕ, ◌-◌, ◌≤◌, Bool, true, false, ltb, Some, None, Option, sym, subst, arith, lit≤}
+use Rattle.std.proofs.Common.{◌≡◌, ℕ, Bool, false, ltb, Some, None, Option, sym, subst, arith, lit≤}
 use Rattle.std.proofs.lemmas.Bool.{ltb-true, ltb-false, lt-ltb, le-ltb}
 use Rattle.ladder.specs.Rungs.{least_at_or_above, greatest_at_or_below, Least, Greatest}
 use Rattle.ladder.proofs.Found.{least-tells, least-is, greatest-tells, greatest-is}

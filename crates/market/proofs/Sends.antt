@@ -1,5 +1,5 @@
 -- One turn of a send through two markets: all that is taken at the best price of both.
-use Rattle.std.proofs.Common.{◌≡◌, ℕ, ◌+◌, ◌-◌, ◌<◌, ◌≤◌, min, true, false, cond, leb, ◌⊎◌, Some, None, sym, refl, ◌∙◌, inl, inr, arith}
+use Rattle.std.proofs.Common.{◌≡◌, ℕ, ◌+◌, ◌-◌, ◌<◌, ◌≤◌, min, true, false, ◌⊎◌, Some, None, sym, refl, ◌∙◌, inl, inr, arith}
 use Rattle.std.proofs.lemmas.Bool.{cond-true, cond-false, cond_both, cases_Bool, leb-true, leb-false, cases_lt}
 use Rattle.interest.specs.Bounds.{priced}
 use Rattle.ladder.proofs.Found.{priced-from, priced-tells}

@@ -1,5 +1,5 @@
 -- What `greatest`, `lowest` and `highest` find.
-use Rattle.std.proofs.Common.{◌≡◌, ℕ, zero, suc, ◌+◌, ◌-◌, ◌<◌, ◌≤◌, Bool, true, false, Some, None, Option, unwrap_or, sym, refl, ap, ◌∙◌, ap₂, inl, inr, add-zero, add-suc, arith}
+use Rattle.std.proofs.Common.{◌≡◌, ℕ, zero, suc, ◌+◌, ◌<◌, ◌≤◌, Bool, true, false, Some, None, Option, unwrap_or, sym, refl, ap, ◌∙◌, ap₂, inl, inr, add-zero, add-suc, arith}
 use Rattle.std.proofs.lemmas.Bool.{cases_lt, cases_eq, cases_Bool, both_ways}
 use Rattle.pricing.specs.Scan.{or_else, only, greatest, lowest, highest}
 

@@ -1,5 +1,5 @@
 -- Where a tick decides to open with a price, that price is the best of its range for the kind of opening.
-use Rattle.std.proofs.Common.{◌≡◌, ℕ, suc, ◌-◌, Bool, true, false, cond, ◌&&◌, eqb, Some, None, Option, refl, arith}
+use Rattle.std.proofs.Common.{◌≡◌, ℕ, suc, ◌-◌, Bool, true, false, ◌&&◌, eqb, Some, None, Option, refl, arith}
 use Rattle.std.proofs.lemmas.Bool.{cond_both}
 use Rattle.ranges.specs.declared.Range.{Range}
 use Rattle.pricing.specs.declared.search.Choice.{Choice}

@@ -1,6 +1,6 @@
 -- The law holds of every run; a refused call changes nothing, and an open series refuses every call.
-use Rattle.std.proofs.Common.{◌≡◌, ℕ, ◌+◌, ◌≤◌, Bool, true, false, cond, List, Some, None, Ok, Err, Option, Result, sym, refl, ap, ◌∙◌, arith}
-use Rattle.std.proofs.lemmas.Bool.{cond-true, true≢false, false≢true}
+use Rattle.std.proofs.Common.{◌≡◌, ℕ, ◌≤◌, Bool, true, false, cond, List, Some, Ok, Err, Option, Result, refl, arith}
+use Rattle.std.proofs.lemmas.Bool.{false≢true}
 use Rattle.interest.specs.declared.Refusal.{Refusal}
 use Rattle.interest.specs.declared.Refusal.TheVariants.{SeriesOpen}
 use Rattle.book.specs.Edits.{answered}

@@ -1,9 +1,8 @@
 -- What every run keeps, by induction on the run.
-use Rattle.std.proofs.Common.{◌≡◌, ℕ, zero, suc, ◌+◌, ◌-◌, ◌<◌, ◌≤◌, Bool, true, false, cond, not, ◌&&◌, eqb, leb, ◌⊎◌, List, [], ◌∷◌, ◌++◌, map, Some, None, Ok, Err, filter, Option, Result, sym, refl, ap, ◌∙◌, subst, inl, inr, arith}
+use Rattle.std.proofs.Common.{◌≡◌, ℕ, zero, suc, ◌+◌, ◌<◌, ◌≤◌, Bool, true, false, cond, not, ◌&&◌, eqb, leb, List, ◌∷◌, Some, None, Ok, Err, Option, Result, sym, refl, ap, ◌∙◌, subst, inl, inr, arith}
 use Rattle.std.specs.List.{AllByRecursion}
 use Rattle.std.proofs.lemmas.Bool.{and_parts, not-false, leb-true, cond-true, cases_Bool, both_ways}
 use Rattle.interest.specs.declared.Side.{Side}
-use Rattle.interest.specs.declared.Side.TheVariants.{Buy, Sell}
 use Rattle.interest.specs.declared.Refusal.{Refusal}
 use Rattle.interest.specs.declared.Refusal.TheVariants.{SeriesOpen, NumberOutOfBounds}
 use Rattle.interest.specs.Bounds.{maker_numbered}
@@ -15,7 +14,7 @@ use Rattle.book.specs.declared.row.TakenBack.{TakenBack}
 use Rattle.book.specs.Rows.{held, is_order}
 use Rattle.book.specs.Ranks.{of_side, total_of, contracts}
 use Rattle.book.specs.Reads.{first, stands, is_quote_side}
-use Rattle.book.specs.Edits.{order_row, added, without_order, without_quote, quoted as quoted_rows, sized_quote, answered, left_or_refused, take_out_answer, quote_out_cause, left_of_quote}
+use Rattle.book.specs.Edits.{order_row, added, without_order, without_quote, quoted as quoted_rows, sized_quote, answered, left_or_refused, quote_out_cause, left_of_quote}
 use Rattle.book.specs.Effects.{taken_back_on}
 use Rattle.book.proofs.EditFacts.{past-cause}
 use Rattle.clearing.specs.Openings.{priced_only, counts_left, routed_on}
@@ -26,21 +25,19 @@ use Rattle.stages.specs.declared.stage.Stage.{Stage}
 use Rattle.stages.specs.declared.stage.Decision.{Decision}
 use Rattle.stages.specs.declared.stage.Decision.TheVariants as decision
 use Rattle.stages.specs.declared.stage.TickAnswer.{TickAnswer}
-use Rattle.stages.specs.declared.stage.TickAnswer.TheVariants.{Waits, Holds, Message, Opened}
+use Rattle.stages.specs.declared.stage.TickAnswer.TheVariants.{Waits, Holds, Message}
 use Rattle.stages.specs.Stages.{is_open, due, stage_after, stage_by}
-use Rattle.stages.specs.Waits.{reason_to_wait}
 use Rattle.stages.specs.Looks.{scene}
-use Rattle.stages.specs.Decisions.{decision_by}
-use Rattle.runs.specs.States.{Terms, State, start, with_rows, edited_by}
-use Rattle.runs.specs.Steps.{unless_open, Entered, Withdrew, Quoted, Pulled, enter_cause, enter_answer, withdraw_answer, quote_cause, quote_answer, pull_answer}
-use Rattle.runs.specs.Ticks.{Tick, Ticked, tick_cause, decision_at, rows_by, told_by, tick_answer, tick_state, Carried, CarriedBy, Carries}
-use Rattle.runs.specs.Histories.{Event, has_number, orders_in, quote_in, standing, stage_in, last_in, found_in, size_on, accepted, back_from, withdrawn}
+use Rattle.runs.specs.States.{Terms, State, with_rows}
+use Rattle.runs.specs.Steps.{Entered, Withdrew, Quoted, Pulled, enter_cause, enter_answer, withdraw_answer, quote_cause, quote_answer, pull_answer}
+use Rattle.runs.specs.Ticks.{Tick, Ticked, decision_at, rows_by, told_by, tick_answer, CarriedBy}
+use Rattle.runs.specs.Histories.{Event, orders_in, quote_in, standing, stage_in, last_in, found_in, accepted, back_from, withdrawn}
 use Rattle.runs.specs.Histories.Event.{Enters, Withdraws, Quotes, Pulls, Ticks}
-use Rattle.runs.specs.Laws.{Step, Run, Untouched, Answered, Opens, Opening}
+use Rattle.runs.specs.Laws.{Step, Run, Answered, Opens, Opening}
 use Rattle.runs.specs.Laws.Step.{entered, withdrew, quoted, pulled, ticked}
 use Rattle.runs.specs.Laws.Run.{made, next}
 use Rattle.runs.proofs.Standing.{added-standing, without-order-standing, without-quote-standing, quoted-standing}
-use Rattle.runs.proofs.Sums.{Fresh, fresh-standing, fresh-left, none-routed, same-held, order-back, quote-held}
+use Rattle.runs.proofs.Sums.{Fresh, fresh-standing, fresh-left, same-held, order-back, quote-held}
 use Rattle.runs.proofs.Chosen.{FairDecision, fair-waits, fair-decision}
 use Rattle.runs.proofs.Openings.{opens}
 

@@ -1,5 +1,5 @@
 -- What an opening comes to, from rows as accepted: its report, what it leaves away, and its trade.
-use Rattle.std.proofs.Common.{◌≡◌, ℕ, suc, ◌+◌, ◌-◌, ◌<◌, ◌≤◌, min, Bool, true, false, cond, ◌&&◌, eqb, leb, List, [], ◌∷◌, length, get_or, Some, None, Option, unwrap_or, sym, refl, ap, ◌∙◌, subst, inl, inr, arith}
+use Rattle.std.proofs.Common.{◌≡◌, ℕ, suc, ◌+◌, ◌<◌, ◌≤◌, Bool, true, false, cond, List, [], ◌∷◌, length, get_or, Some, None, Option, unwrap_or, sym, refl, ap, ◌∙◌, subst, inl, inr, arith}
 use Rattle.std.specs.List.{AllByRecursion}
 use Rattle.std.proofs.lemmas.Bool.{and_parts, both_ways, cases_lt, cond_both, eqb-true, leb-true}
 use Rattle.interest.specs.declared.Side.{Side}
@@ -12,9 +12,8 @@ use Rattle.book.specs.Rewrites.{SameRows}
 use Rattle.book.proofs.RankFacts.{bounds}
 use Rattle.book.proofs.SumFacts.{routable-at-part}
 use Rattle.levels.proofs.Totals.{total-cons}
-use Rattle.pricing.specs.declared.figures.Mode.{Mode}
 use Rattle.pricing.specs.declared.figures.Mode.TheVariants as mode
-use Rattle.pricing.specs.Prices.{opening, better_at, allowed, usable_at, net_at, volume_at}
+use Rattle.pricing.specs.Prices.{opening, allowed, usable_at, volume_at}
 use Rattle.clearing.specs.declared.opening.Kind.{Kind}
 use Rattle.clearing.specs.declared.opening.Opening.{Opening}
 use Rattle.clearing.specs.Kinds.{routes}
@@ -26,7 +25,7 @@ use Rattle.runs.specs.States.{Terms}
 use Rattle.runs.specs.Ticks.{Tick, Carried}
 use Rattle.runs.specs.Laws.{mode_of, Trade, Opens}
 use Rattle.runs.proofs.Sums.{Fresh, none-traded, none-routed}
-use Rattle.runs.proofs.Chosen.{ChosenAt, Fair}
+use Rattle.runs.proofs.Chosen.{Fair}
 
 -- A USABLE PRICE CAN BE OPENED AT
 

@@ -1,5 +1,5 @@
 -- Sums over the rows: what they hold, and that nothing of a row that stands is traded, routed or cancelled.
-use Rattle.std.proofs.Common.{◌≡◌, ℕ, ◌+◌, ◌-◌, Bool, true, false, cond, ◌&&◌, eqb, List, [], ◌∷◌, ◌++◌, map, Some, None, Option, sym, refl, ap, ◌∙◌, subst, inl, inr, arith}
+use Rattle.std.proofs.Common.{◌≡◌, ℕ, ◌+◌, Bool, true, false, cond, ◌&&◌, eqb, List, [], ◌∷◌, Some, sym, refl, ap, ◌∙◌, subst, inl, inr, arith}
 use Rattle.std.specs.List.{AllByRecursion}
 use Rattle.std.proofs.lemmas.Bool.{and_parts, cond-true, cond-false, cases_Bool, eqb-true}
 use Rattle.std.proofs.ByRecursion.{All-weaker}
@@ -9,13 +9,12 @@ use Rattle.interest.specs.declared.Side.TheVariants.{Buy, Sell}
 use Rattle.interest.specs.Bounds.{sized}
 use Rattle.interest.specs.Sides.{same_side}
 use Rattle.book.specs.declared.row.Row.{Row}
-use Rattle.book.specs.declared.row.Order.{Order}
 use Rattle.book.specs.declared.row.Quote.{Quote}
 use Rattle.book.specs.Rows.{held, is_order, sound_table}
 use Rattle.book.specs.Ranks.{of_side, total_of, contracts}
 use Rattle.book.specs.Reads.{first}
 use Rattle.book.specs.Rewrites.{SameRows}
-use Rattle.book.specs.Edits.{order_row, quote_row, bid_row, offer_row, quote_rows, sized_quote}
+use Rattle.book.specs.Edits.{bid_row, offer_row, quote_rows, sized_quote}
 use Rattle.book.proofs.ReadFacts.{sum_same}
 use Rattle.book.proofs.EditFacts.{order-part}
 use Rattle.clearing.specs.Openings.{traded_on, routed_on, cancelled_on}

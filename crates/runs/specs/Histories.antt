@@ -1,5 +1,5 @@
 -- The history of an auction: the calls since it was made, each with what it answered, the newest first.
-use Rattle.std.specs.Prelude.{ℕ, zero, suc, ◌+◌, Bool, true, false, cond, not, List, [], ◌∷◌, ◌++◌, map, Some, None, Ok, Err, filter, Option, Result, ◌==◌}
+use Rattle.std.specs.Prelude.{ℕ, zero, suc, ◌+◌, Bool, cond, not, List, [], ◌∷◌, ◌++◌, map, Some, None, Ok, Err, filter, Option, Result, ◌==◌}
 use Rattle.interest.specs.declared.Side.{Side}
 use Rattle.interest.specs.declared.Side.TheVariants.{Buy, Sell}
 use Rattle.interest.specs.Sides.{same_side}
@@ -18,7 +18,7 @@ use Rattle.stages.specs.declared.stage.Stage.{Stage}
 use Rattle.stages.specs.declared.stage.Stage.TheVariants.{Waiting}
 use Rattle.stages.specs.declared.stage.TickAnswer.{TickAnswer}
 use Rattle.stages.specs.Stages.{stage_by}
-use Rattle.runs.specs.States.{Terms, State}
+use Rattle.runs.specs.States.{State}
 use Rattle.runs.specs.Ticks.{Tick}
 
 -- a call and its answer

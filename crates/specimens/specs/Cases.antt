@@ -21,8 +21,6 @@ use Rattle.pricing.specs.declared.figures.Unmatched.TheVariants.{Nothing, Buys, 
 use Rattle.pricing.specs.declared.search.Choice.{Choice}
 use Rattle.pricing.specs.Prices.{opening}
 use Rattle.pricing.specs.Choosing.{choice_in}
-use Rattle.ranges.specs.declared.Quotes.{Quotes}
-use Rattle.ranges.specs.declared.Away.{Away}
 use Rattle.ranges.specs.declared.Range.{Range}
 use Rattle.ranges.specs.Bands.{valid_quote}
 use Rattle.ranges.specs.Ranges.{opening_range}

@@ -1,7 +1,7 @@
 -- The greatest smaller-of-buys-and-sells of all permitted prices, and how the best row of each side tells whether it is 0.
-use Rattle.std.proofs.Common.{◌≡◌, ℕ, zero, suc, ◌+◌, ◌-◌, ◌<◌, ◌≤◌, min, max, Bool, true, false, cond, ◌&&◌, eqb, ltb, leb, List, [], ◌∷◌, length, get_or, Some, None, Option, sym, refl, ap, ◌∙◌, subst, inl, inr, arith}
+use Rattle.std.proofs.Common.{◌≡◌, ℕ, zero, suc, ◌+◌, ◌-◌, ◌<◌, ◌≤◌, min, max, Bool, true, false, cond, ◌&&◌, eqb, ltb, leb, List, [], ◌∷◌, length, get_or, Some, None, Option, sym, refl, ◌∙◌, inl, inr, arith}
 use Rattle.std.proofs.lemmas.Bool.Decides.{nat_tests}
-use Rattle.std.proofs.lemmas.Bool.{cases_lt, cases_Bool, and_parts, and_from, and_right, eq-eqb, eqb-true, eqb-false, ne_eqb, ltb-true, lt-ltb, le-ltb, both_ways, cond-true, cond-false, cond_both}
+use Rattle.std.proofs.lemmas.Bool.{cases_lt, cases_Bool, and_parts, and_from, and_right, eq-eqb, eqb-true, ne_eqb, ltb-true, lt-ltb, le-ltb, both_ways, cond-true, cond-false, cond_both}
 use Rattle.interest.specs.Bounds.{priced}
 use Rattle.interest.specs.declared.Side.{Side}
 use Rattle.interest.specs.declared.Side.TheVariants.{Buy, Sell}
@@ -11,7 +11,7 @@ use Rattle.book.specs.declared.row.Row.{Row}
 use Rattle.book.specs.Rows.{every, sound_row}
 use Rattle.book.specs.Ranks.{of_side, takes_price, rank_of, ranks_at, interest_at}
 use Rattle.book.proofs.RankFacts.{takes-below}
-use Rattle.levels.specs.Levels.{stands_at, stands_below, NextRank}
+use Rattle.levels.specs.Levels.{stands_below, NextRank}
 use Rattle.levels.proofs.Totals.{none-at, total-cons}
 use Rattle.ranges.specs.declared.Range.{Range}
 use Rattle.pricing.specs.declared.figures.Mode.TheVariants as mode

@@ -1,5 +1,5 @@
 -- What a tick decides, by the stage that it finds and whether its deadline has come.
-use Rattle.std.specs.Prelude.{ℕ, ◌+◌, ◌-◌, Bool, true, false, cond, List, Some, None, Option, ◌==◌}
+use Rattle.std.specs.Prelude.{ℕ, ◌+◌, ◌-◌, Bool, true, false, cond, Some, None, Option, ◌==◌}
 use Rattle.ranges.specs.declared.Range.{Range}
 use Rattle.pricing.specs.declared.search.Choice.{Choice}
 use Rattle.clearing.specs.declared.opening.Kind.TheVariants.{Routed}

@@ -20,7 +20,7 @@ use Rattle.pricing.specs.Scan.{greatest}
 use Rattle.pricing.specs.Choosing.{choice_in}
 use Rattle.pricing.specs.Best.{crossing}
 use Rattle.clearing.specs.declared.opening.Kind.{Kind}
-use Rattle.clearing.specs.declared.opening.Kind.TheVariants.{Plain, Quick, Exchange, Routed, Forced}
+use Rattle.clearing.specs.declared.opening.Kind.TheVariants.{Plain, Quick, Exchange, Forced}
 use Rattle.clearing.specs.declared.opening.Opening.{Opening}
 
 -- the permitted prices, the prior close, the rows, and the contracts that the away market shows on a side at a price or better

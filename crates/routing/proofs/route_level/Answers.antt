@@ -16,7 +16,6 @@ use Rattle.levels.proofs.Dealing.{level-total}
 use Rattle.levels.proofs.Walking.{stands_read, here-no}
 use Rattle.routing.specs.Routes.{count_at, served}
 use Rattle.routing.proofs.Sending.{counted_is, count_less, opposite-twice, serve-yes, sum-yes, serve-no, level-fits}
-use Rattle.routing.proofs.route_level.Given as given
 use Rattle.routing.proofs.route_level.Goals as goal
 use Rattle.routing.proofs.route_level.Goals.{then-stands_at, else-stands_at}
 

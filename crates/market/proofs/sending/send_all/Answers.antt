@@ -1,5 +1,5 @@
 -- Each turn makes the first of the sends that are left.
-use Rattle.std.proofs.Common.{◌≡◌, ◌+◌, ◌-◌, get_or, drop, ap, ◌∙◌, arith}
+use Rattle.std.proofs.Common.{◌≡◌, ◌+◌, get_or, drop, ap, ◌∙◌, arith}
 use Rattle.std.proofs.lemmas.List.{drop_all, at_drop_more}
 use Rattle.market.specs.declared.sending.Sending.{Sending}
 use Rattle.market.specs.Sends.{sent_in_all}

@@ -1,11 +1,11 @@
 -- Row by row.
-use Rattle.std.proofs.Common.{◌≡◌, ℕ, ◌+◌, ◌<◌, ◌≤◌, Bool, true, false, cond, not, List, [], ◌∷◌, ◌++◌, map, length, drop, is_ok, Some, None, Option, sym, ap, ◌∙◌, arith}
+use Rattle.std.proofs.Common.{◌≡◌, ℕ, ◌+◌, ◌<◌, ◌≤◌, Bool, true, false, cond, not, List, [], ◌∷◌, ◌++◌, map, length, drop, is_ok, sym, ap, ◌∙◌, arith}
 use lib.ListN.{length-map}
 use Rattle.std.proofs.lemmas.List.{drop_all}
 use Rattle.sharing.specs.declared.level.Holding.{Holding}
 use Rattle.sharing.specs.Levels.{rows_of}
 use Rattle.script.specs.Shares.{rows_from}
-use Rattle.script.proofs.ShareFacts.{rows-by, rows-at-none, rows-at-refused, rows-at-taken}
+use Rattle.script.proofs.ShareFacts.{rows-at-none, rows-at-refused, rows-at-taken}
 use Rattle.script.proofs.share.level_of.Goals as goal
 
 pub returns-in_err-holding : goal.returns-in_err-holding

@@ -1,5 +1,5 @@
 -- The rows read, with those that the other words tell, are the rows of the call.
-use Rattle.std.proofs.Common.{◌≡◌, ◌-◌, ◌≤◌, [], map, length, drop}
+use Rattle.std.proofs.Common.{◌≡◌, ◌-◌, [], map, length, drop}
 use Rattle.sharing.specs.Levels.{rows_of}
 use Rattle.script.specs.Shares.{rows_from}
 use Rattle.script.proofs.share.level_of.Given as goal

@@ -1,9 +1,6 @@
 -- Where nothing unmatched is through the choice, no permitted price trades more.
-use Rattle.std.proofs.Common.{◌≡◌, Some, Option, sym, refl, ap, ◌∙◌}
-use Rattle.pricing.specs.declared.search.Choice.{Choice}
+use Rattle.std.proofs.Common.{◌≡◌, Some, sym, refl, ap, ◌∙◌}
 use Rattle.ranges.specs.declared.Quotes.{Quotes}
-use Rattle.ranges.specs.declared.Away.{Away}
-use Rattle.ranges.specs.declared.Range.{Range}
 use Rattle.ranges.specs.Ranges.{quick_range}
 use Rattle.book.specs.Books.{rows_of}
 use Rattle.stages.specs.Looks.{scene, quotes_of, away_of, quick_at, quick_in}

@@ -1,5 +1,5 @@
 -- An opening carried out is what was decided.
-use Rattle.std.proofs.Common.{◌≡◌, sym, refl, ap, ◌∙◌, subst}
+use Rattle.std.proofs.Common.{sym, ap, ◌∙◌, subst}
 use Rattle.book.specs.Books.{rows_of}
 use Rattle.stages.specs.declared.stage.Decision.{Decision}
 use Rattle.stages.specs.declared.stage.TickAnswer.TheVariants.{Opened}

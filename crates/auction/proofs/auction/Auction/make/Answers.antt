@@ -1,5 +1,5 @@
 -- The proof of `make`.
-use Rattle.std.proofs.Common.{◌≡◌, ℕ, Bool, List, [], IfOk, Ok, Err, Result, sym, subst}
+use Rattle.std.proofs.Common.{ℕ, Bool, List, [], IfOk, Ok, Err, Result, sym, subst}
 use Rattle.interest.specs.declared.Refusal.{Refusal}
 use Rattle.sharing.specs.declared.level.Holding.{Holding}
 use Rattle.stages.specs.declared.settings.Settings.{Settings}

@@ -1,6 +1,5 @@
 -- The proof of `tick`.
 use Rattle.std.proofs.Common.{refl, ap, ◌∙◌}
-use Rattle.book.specs.declared.book.Book.{Book}
 use Rattle.book.specs.Books.{rows_of}
 use Rattle.runs.specs.Ticks.{tick_of}
 use Rattle.runs.specs.Laws.Step.{ticked}
