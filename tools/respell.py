@@ -1,5 +1,6 @@
 #!/usr/bin/env python3
-"""Respells the repository's own definitions and lemmas: a word in lower camel case becomes snake case (rowsOf, rows_of).
+"""Respells the repository's own definitions and lemmas: a word in lower camel case becomes snake case (rowsOf, rows_of), and so does a field of
+a record in specs/ that has a dash (away-bid, away_bid). In pages of definitions a word of std that has two names gets the one that clauses use.
 
 usage: python3 tools/respell.py [--try]    at the top of the repository, after port.py; --try only says what it would do
 
@@ -15,6 +16,38 @@ WORD = re.compile(r"[^\s(){}\[\],.;:«»⌜⌝\"`]+")
 DECLARED = re.compile(r"^(?:(?:pub|abbrev|unfoldable)\s+)*([^\s(){}\[\],.;:«»]+)\s*:(?:\s|$)")
 MEMBER = re.compile(r"^\s+(?:(?:pub|abbrev|unfoldable)\s+)*([^\s(){}\[\],.;:«»]+)\s*:(?:\s|$)")
 GHOST = re.compile(r"^\s*ghost\s+([A-Za-z_][\w']*)\s*[:=]")
+
+
+FIELD = re.compile(r"^\s+pub\s+([a-z][a-z0-9_]*(?:-[a-z0-9_]+)+)\s*:(?:\s|$)")
+# std's words with two names: the one that clauses use
+ONE_NAME = {"leb": "nat_le", "ltb": "nat_lt", "get_or": "slice_index_or"}
+
+
+def fields_of_records(text):
+    """The fields with a dash that the records of a page of specs/ declare."""
+    inside = False
+    for line in text.splitlines():
+        if line and not line[0].isspace():
+            inside = bool(re.match(r"(?:pub\s+)?record\b", line))
+        elif inside and (m := FIELD.match(line)):
+            yield m[1]
+
+
+def with_one_name(text):
+    """A page of definitions with one name for each word of std; a page of lemmas stays."""
+    if not re.search(r"(?m)^abbrev |^pub (?:record|data) ", text):
+        return text
+    uses = re.compile(r"(?m)^use Rattle\.std\.specs\.Prelude\.\{([^}]*)\}")
+    made = WORD.sub(lambda m: ONE_NAME.get(m[0], m[0]), text)
+
+    def once(m):
+        names = []
+        for n in m[1].split(", "):
+            if n not in names:
+                names.append(n)
+        return m[0].replace(m[1], ", ".join(names))
+
+    return uses.sub(once, made)
 
 
 def snake(word):
@@ -65,9 +98,13 @@ def main():
     if trying:
         return
     change = lambda m: new.get(m[0], m[0])
+    dashed = {n for f, text in texts.items() if "/specs/" in f for n in fields_of_records(text)}
+    new.update((n, n.replace("-", "_")) for n in dashed)
     for f, text in texts.items():
         if f.endswith(".antt"):
             made = WORD.sub(change, text)
+            if "/specs/" in f:
+                made = with_one_name(made)
         else:
             made = "".join(WORD.sub(change, text[a:b]) if code else text[a:b] for a, b, code in code_spans(text))
         if made != text:

@@ -1,5 +1,5 @@
 -- What a call does to the rows of a table, and what it answers.
-use Rattle.std.specs.Prelude.{ℕ, Bool, true, false, cond, not, ◌&&◌, ◌||◌, leb, List, [], ◌∷◌, ◌++◌, Some, None, Ok, Err, filter, Option, Result, ◌==◌, nat_le, nat_lt}
+use Rattle.std.specs.Prelude.{ℕ, Bool, true, false, cond, not, ◌&&◌, ◌||◌, nat_le, List, [], ◌∷◌, ◌++◌, Some, None, Ok, Err, filter, Option, Result, ◌==◌, nat_lt}
 use Rattle.interest.specs.declared.Side.{Side}
 use Rattle.interest.specs.declared.Side.TheVariants.{Buy, Sell}
 use Rattle.interest.specs.declared.Class.TheVariants.{Other}
@@ -77,7 +77,7 @@ quote_rows m q = cond (q.bid == 0) (offer_row m q ∷ []) (bid_row m q ∷ offer
 
 -- a row put in row order, behind those of its own place
 abbrev pub placed : Row → List Row → List Row
-placed row rows = filter (λ r. leb (place r) (place row)) rows ++ row ∷ filter (λ r. not (nat_le (place r) (place row))) rows
+placed row rows = filter (λ r. nat_le (place r) (place row)) rows ++ row ∷ filter (λ r. not (nat_le (place r) (place row))) rows
 
 -- the last of the orders
 abbrev pub added : Order → List Row → List Row

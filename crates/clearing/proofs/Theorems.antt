@@ -263,8 +263,8 @@ module _ (permitted : ℕ → Bool) (shares : ℕ → List Holding → List ℕ)
       let gone = fj.none none in
       (gone, omega (arith, fj.sum, none, gone, rows_at (λ (r s : Row). s.cancelled ≡ r.cancelled) rows done facts.cancelled j d ltj))
 
-  pub nothing-better : NothingBetter counts o rows left
-  nothing-better p e u side q better =
+  pub nothing_better : NothingBetter counts o rows left
+  nothing_better p e u side q better =
       let hp = some-priced o.price p e in
       let taken : (s : Side) → better_for counts p s ≤ routed_on s done - routed_on s rows = λ s.
       subst (λ (x : List Row). better_for counts p s ≤ routed_on s x - routed_on s rows) (sym (at-price p e)) (usable-sums shares long within whole counts rows sound edge o.kind p o.volume hp u s).1 in

@@ -1,5 +1,5 @@
 -- What an opening reports.
-use Rattle.std.specs.Prelude.{◌≡◌, ℕ, ◌<◌, true, cond, List, length, get_or, is_some, fold, Option, slice_index_or}
+use Rattle.std.specs.Prelude.{◌≡◌, ℕ, ◌<◌, true, cond, List, length, slice_index_or, is_some, fold, Option}
 use Rattle.std.specs.Option.{unwrap_or}
 use Rattle.interest.specs.declared.Side.{Side}
 use Rattle.interest.specs.declared.Side.TheVariants.{Buy, Sell}
@@ -25,8 +25,8 @@ report_of o told rows = record { kind = o.kind; price = unwrap_or told 0; volume
 
 -- no row of the side is shown better than q, and one is shown at it; at 0, none is shown
 pub record BestShown (side : Side) (rows : List Row) (q : ℕ) : Type 0 where
-  pub covers : (i : ℕ) (d : Row) → i < length rows → of_side side (slice_index_or rows i d) ≡ true → 0 < (get_or rows i d).shown → (0 < q) × AsGood side q (get_or rows i d).shown
-  pub stands : 0 < q → (i : ℕ) × (i < length rows) × ((d : Row) → (of_side side (slice_index_or rows i d) ≡ true) × ((get_or rows i d).shown ≡ q))
+  pub covers : (i : ℕ) (d : Row) → i < length rows → of_side side (slice_index_or rows i d) ≡ true → 0 < (slice_index_or rows i d).shown → (0 < q) × AsGood side q (slice_index_or rows i d).shown
+  pub stands : 0 < q → (i : ℕ) × (i < length rows) × ((d : Row) → (of_side side (slice_index_or rows i d) ≡ true) × ((slice_index_or rows i d).shown ≡ q))
 
 abbrev pub ShowsBest : Report → List Row → Type 0
 ShowsBest told rows = BestShown Buy rows told.buys.best × BestShown Sell rows told.sells.best

@@ -1,5 +1,5 @@
 -- What filling a volume on one side makes of the rows.
-use Rattle.std.specs.Prelude.{◌≡◌, ℕ, ◌-◌, ◌<◌, true, cond, List, [], ◌∷◌, length, get_or, slice_index_or}
+use Rattle.std.specs.Prelude.{◌≡◌, ℕ, ◌-◌, ◌<◌, true, cond, List, [], ◌∷◌, length, slice_index_or}
 use Rattle.interest.specs.declared.Side.{Side}
 use Rattle.sharing.specs.declared.level.Holding.{Holding}
 use Rattle.book.specs.declared.row.Row.{Row}
@@ -25,4 +25,4 @@ got_traded side k (r ∷ before) (s ∷ after) = cond (stands_at (of_side side) 
 -- a row trades only where every row of a better level on its side is left with nothing
 abbrev pub InPriority : Side → List Row → List Row → Type 0
 InPriority side before after = (i j : ℕ) (d : Row) → i < length before → j < length before → of_side side (slice_index_or before i d) ≡ true → of_side side (slice_index_or before j d) ≡ true
-    → rank_of (slice_index_or before j d) < rank_of (slice_index_or before i d) → (get_or before i d).traded < (get_or after i d).traded → (get_or after j d).left ≡ 0
+    → rank_of (slice_index_or before j d) < rank_of (slice_index_or before i d) → (slice_index_or before i d).traded < (slice_index_or after i d).traded → (slice_index_or after j d).left ≡ 0

@@ -1,13 +1,13 @@
 -- The bounds of prices, sizes and maker numbers.
-use Rattle.std.specs.Prelude.{Bool, ◌&&◌, ℕ, leb}
+use Rattle.std.specs.Prelude.{Bool, ◌&&◌, ℕ, nat_le}
 
 -- whole cents
 abbrev pub priced : ℕ → Bool
-priced p = leb 1 p && leb p 100000
+priced p = nat_le 1 p && nat_le p 100000
 
 -- contracts
 abbrev pub sized : ℕ → Bool
-sized n = leb 1 n && leb n 1000000
+sized n = nat_le 1 n && nat_le n 1000000
 
 abbrev pub maker_numbered : ℕ → Bool
-maker_numbered m = leb 1 m && leb m 16
+maker_numbered m = nat_le 1 m && nat_le m 16

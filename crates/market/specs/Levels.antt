@@ -1,5 +1,5 @@
 -- What the levels of a depth table show, and what a send leaves of each.
-use Rattle.std.specs.Prelude.{◌≡◌, ℕ, ◌+◌, ◌-◌, ◌<◌, ◌≤◌, Bool, true, false, cond, ◌&&◌, List, length, get_or, take, drop, Some, None, sum_by, Option, slice_index_or}
+use Rattle.std.specs.Prelude.{◌≡◌, ℕ, ◌+◌, ◌-◌, ◌<◌, ◌≤◌, Bool, true, false, cond, ◌&&◌, List, length, slice_index_or, take, drop, Some, None, sum_by, Option}
 use Rattle.interest.specs.Sides.{same_side}
 use Rattle.interest.specs.declared.Side.{Side}
 use Rattle.interest.specs.declared.Side.TheVariants.{Buy}
@@ -29,8 +29,8 @@ blank = record { side = Buy; price = 0; size = 0 }
 -- no earlier level is as good, no later one better
 abbrev pub Before : Side → List DepthLevel → ℕ → ℕ → Type 0
 Before d ls k j =
-    (j < k → Better d (get_or ls k blank).price (get_or ls j blank).price)
-    × (k ≤ j → AsGood d (get_or ls k blank).price (get_or ls j blank).price)
+    (j < k → Better d (slice_index_or ls k blank).price (slice_index_or ls j blank).price)
+    × (k ≤ j → AsGood d (slice_index_or ls k blank).price (slice_index_or ls j blank).price)
 
 -- of the first n levels, the one that is taken first on a side, or none stands there
 abbrev pub Foremost : Side → List DepthLevel → ℕ → Option ℕ → Type 0
@@ -41,7 +41,7 @@ Foremost d ls n (Some k) =
 
 -- what a level at place i gives to a send of n at p: what it shows there, as far as n goes after those ahead of it
 abbrev pub given : Side → List DepthLevel → ℕ → ℕ → ℕ → ℕ
-given d ls p n i = counted (level_shows d (slice_index_or ls i blank)) p (n - ahead d ls i (get_or ls i blank).price)
+given d ls p n i = counted (level_shows d (slice_index_or ls i blank)) p (n - ahead d ls i (slice_index_or ls i blank).price)
 
 -- a level with m contracts less
 abbrev pub lowered : DepthLevel → ℕ → DepthLevel

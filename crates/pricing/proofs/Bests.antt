@@ -104,7 +104,7 @@ module _ (permitted : ℕ → Bool) (o : Opening) (low high close : ℕ) where
   module _ (w : Worsens o.shown) (within : Within permitted) (v : ℕ) (is : v ≡ greatest (traded_at permitted o) low (suc high - low)) (pos : 0 < v) where
     best_of : (p : ℕ) → Top v p → Best permitted o low high (choice_at o p)
     best_of p t = record {
-      on-ladder = t.rung;
+      on_ladder = t.rung;
       from = t.from;
       to = t.to;
       usable = t.can;
@@ -177,7 +177,7 @@ module _ (permitted : ℕ → Bool) (o : Opening) (low high close : ℕ) where
 
   pub best-priced : Within permitted → (r : Option ℕ) → Chosen permitted o low high (option_map (choice_at o) r) → IfSome r (λ p. priced p ≡ true)
   best-priced within None h = tt
-  best-priced within (Some p) h = let bounds = within p h.on-ladder in priced-from p bounds.0 bounds.1
+  best-priced within (Some p) h = let bounds = within p h.on_ladder in priced-from p bounds.0 bounds.1
 
   pub best-crosses : (r : Option ℕ) → Chosen permitted o low high (option_map (choice_at o) r) → o.mode ≡ Exchange → CrossesMost o.rows (option_map (choice_at o) r)
   best-crosses None h e = tt

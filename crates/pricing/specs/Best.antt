@@ -27,7 +27,7 @@ LeftBy o p (Buys n) left = LeftOn o Buy p left
 LeftBy o p (Sells n) left = LeftOn o Sell p left
 
 pub record Best (permitted : ℕ → Bool) (o : Opening) (low high : ℕ) (c : Choice) : Type 0 where
-  pub on-ladder : permitted c.price ≡ true
+  pub on_ladder : permitted c.price ≡ true
   pub from : low ≤ c.price
   pub to : c.price ≤ high
   pub usable : usable_at o c.price ≡ true

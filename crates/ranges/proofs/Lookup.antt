@@ -65,10 +65,10 @@ Rising b (x ∷ xs) = NoNarrower b x × Rising x xs
 rising-past : (b x : Band) (xs : List Band) → NoNarrower b x → Rising x xs → Rising b xs
 rising-past b x [] h s = tt
 rising-past b x (y ∷ ys) h s =
-    (record { valid-width = omega (arith, s.0); quality-width = omega (arith, s.0); amounts = omega (arith, s.0) }, s.1)
+    (record { valid_width = omega (arith, s.0); quality_width = omega (arith, s.0); amounts = omega (arith, s.0) }, s.1)
 
 same_width : (b : Band) → NoNarrower b b
-same_width b = record { valid-width = omega arith; quality-width = omega arith; amounts = omega arith }
+same_width b = record { valid_width = omega arith; quality_width = omega arith; amounts = omega arith }
 
 walk-rises : (bid higher : ℕ) (xs : List Band) (b x : Band) → bid ≤ higher → NoNarrower b x → Rising b xs → NoNarrower (last_reached bid xs b) (last_reached higher xs x)
 walk-rises bid higher [] b x le h s = h

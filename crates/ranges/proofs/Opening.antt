@@ -12,15 +12,15 @@ shown b o = record { bid = b; offer = o }
 
 proper-at : (q : Quotes) (b o : Option ℕ) → Standing q (shown b o) → Proper (opening_range q (shown b o))
 proper-at q (Some b) (Some o) s =
-    let h : priced b ≡ true = s.away-bid b refl in
-    let k : priced o ≡ true = s.away-offer o refl in
+    let h : priced b ≡ true = s.away_bid b refl in
+    let k : priced o ≡ true = s.away_offer o refl in
     let le : b ≤ o = s.uncrossed b o refl refl in
     record { bottom = grind (arith, nat_tests); order = grind (arith, nat_tests); top = grind (arith, nat_tests) }
 proper-at q (Some b) None s =
-    let h : priced b ≡ true = s.away-bid b refl in
+    let h : priced b ≡ true = s.away_bid b refl in
     record { bottom = grind (arith, nat_tests); order = grind (arith, nat_tests); top = grind (arith, nat_tests) }
 proper-at q None (Some o) s =
-    let k : priced o ≡ true = s.away-offer o refl in
+    let k : priced o ≡ true = s.away_offer o refl in
     record { bottom = grind (arith, nat_tests); order = grind (arith, nat_tests); top = grind (arith, nat_tests) }
 proper-at q None None s =
     record { bottom = grind (arith, nat_tests); order = grind (arith, nat_tests); top = grind (arith, nat_tests) }

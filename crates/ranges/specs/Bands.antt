@@ -36,8 +36,8 @@ pub record LastReached (xs : List Band) (bid : ℕ) (b : Band) : Type 0 where
 
 -- no width of x is smaller than that of b
 pub record NoNarrower (b x : Band) : Type 0 where
-  pub valid-width : b.valid ≤ x.valid
-  pub quality-width : b.quality ≤ x.quality
+  pub valid_width : b.valid ≤ x.valid
+  pub quality_width : b.quality ≤ x.quality
   pub amounts : b.amount ≤ x.amount
 
 -- an offer above the bid by at most the valid width

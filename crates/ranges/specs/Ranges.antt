@@ -58,8 +58,8 @@ opening_range q a = cond (reaching q a) (away_ends q a) (widened (spread_of q a)
 pub record Standing (q : Quotes) (a : Away) : Type 0 where
   pub offered : priced q.offer ≡ true
   pub bids : q.bid ≤ 100000
-  pub away-bid : (b : ℕ) → a.bid ≡ Some b → priced b ≡ true
-  pub away-offer : (o : ℕ) → a.offer ≡ Some o → priced o ≡ true
+  pub away_bid : (b : ℕ) → a.bid ≡ Some b → priced b ≡ true
+  pub away_offer : (o : ℕ) → a.offer ≡ Some o → priced o ≡ true
   pub uncrossed : (b o : ℕ) → a.bid ≡ Some b → a.offer ≡ Some o → b ≤ o
 
 -- from a price to one that is not below it

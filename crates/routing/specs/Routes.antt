@@ -1,5 +1,5 @@
 -- What sending to the away market, level by level, makes of the rows.
-use Rattle.std.specs.Prelude.{◌≡◌, ℕ, zero, suc, ◌+◌, ◌-◌, ◌<◌, ◌≤◌, min, max, Bool, true, cond, List, [], ◌∷◌, length, get_or, slice_index_or}
+use Rattle.std.specs.Prelude.{◌≡◌, ℕ, zero, suc, ◌+◌, ◌-◌, ◌<◌, ◌≤◌, min, max, Bool, true, cond, List, [], ◌∷◌, length, slice_index_or}
 use Rattle.interest.specs.Bounds.{priced}
 use Rattle.interest.specs.declared.Side.{Side}
 use Rattle.interest.specs.declared.Side.TheVariants.{Buy, Sell}
@@ -56,4 +56,4 @@ own_share seen side rows ahead r = min r.left (seen (rank_of r) - (sent_below se
 
 -- a routable row keeps contracts only if at least as many as were shown to its rank were sent in all
 abbrev pub Exhausted : (ℕ → ℕ) → Side → ℕ → List Row → List Row → Type 0
-Exhausted seen side sent before after = (i : ℕ) (d : Row) → i < length before → can_route side (slice_index_or before i d) ≡ true → rank_of (slice_index_or before i d) ≤ 100000 → 0 < (get_or after i d).left → seen (rank_of (slice_index_or before i d)) ≤ sent
+Exhausted seen side sent before after = (i : ℕ) (d : Row) → i < length before → can_route side (slice_index_or before i d) ≡ true → rank_of (slice_index_or before i d) ≤ 100000 → 0 < (slice_index_or after i d).left → seen (rank_of (slice_index_or before i d)) ≤ sent

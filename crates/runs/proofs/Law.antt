@@ -60,4 +60,4 @@ module _ (terms : Terms) (s : State) where
   refuses (Ticks k (Err refusal)) t (ticked c) on = refl
 
 pub shut : (terms : Terms) (s : State) → Shut terms s
-shut terms s = record { refused = stays terms s; open-refuses = refuses terms s }
+shut terms s = record { refused = stays terms s; open_refuses = refuses terms s }

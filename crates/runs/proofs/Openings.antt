@@ -93,13 +93,13 @@ module _ (terms : Terms) (k : Tick) (o : Opening) (found left : List Row) (fresh
       record {
         volume = λ side. omega (arith, carried.volume p e open_at side, none-traded side found fresh);
         some = subst (λ (v : ℕ). 0 < v) c.volume c.best.some;
-        on-ladder = subst (λ (q : ℕ). terms.permitted q ≡ true) same c.best.on-ladder;
+        on_ladder = subst (λ (q : ℕ). terms.permitted q ≡ true) same c.best.on_ladder;
         from_low = subst (λ (q : ℕ). o.low ≤ q) same c.best.from;
         to_high = subst (λ (q : ℕ). q ≤ o.high) same c.best.to;
         usable = usable;
         exact = exact;
         most = λ q low high rung can. subst (λ (v : ℕ). volume_at at q ≤ v) c.volume (c.best.most q low high rung can);
-        nothing-better = carried.better p e open_at;
+        nothing_better = carried.better p e open_at;
       }
 
   none-trades : (told : Option ℕ) → priced_only o.price ≡ told → unwrap_or told 0 ≡ 0 → (side : Side) → traded_on side left ≡ 0
@@ -109,10 +109,10 @@ module _ (terms : Terms) (k : Tick) (o : Opening) (found left : List Row) (fresh
   pub opens : ((side : Side) (q : ℕ) → k.after side q ≡ counts_left k.before found left side q) → Opens terms k (report_of o (priced_only o.price) left) found left
   opens counts = record {
     same = carried.kept;
-    routed-buys = refl;
-    routed-sells = refl;
-    cancelled-buys = refl;
-    cancelled-sells = refl;
+    routed_buys = refl;
+    routed_sells = refl;
+    cancelled_buys = refl;
+    cancelled_sells = refl;
     away = λ side q. omega (arith, counts side q, none-routed (opposite side) found fresh);
     untraded = none-trades (priced_only o.price) refl;
     trade = trade-at (priced_only o.price) refl;

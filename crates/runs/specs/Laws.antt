@@ -72,7 +72,7 @@ pub record Trade (terms : Terms) (k : Tick) (report : Report) (found left : List
   pub volume : (side : Side) → traded_on side left ≡ report.volume
   pub some : 0 < report.volume
   -- the price is permitted, in the range, usable, and has just that volume
-  pub on-ladder : terms.permitted report.price ≡ true
+  pub on_ladder : terms.permitted report.price ≡ true
   pub from_low : report.low ≤ report.price
   pub to_high : report.price ≤ report.high
   pub usable : usable_at (opening found k.before (mode_of report.kind)) report.price ≡ true
@@ -80,17 +80,17 @@ pub record Trade (terms : Terms) (k : Tick) (report : Report) (found left : List
   -- no permitted price of the range that is usable has more
   pub most : (q : ℕ) → report.low ≤ q → q ≤ report.high → terms.permitted q ≡ true → usable_at (opening found k.before (mode_of report.kind)) q ≡ true → volume_at (opening found k.before (mode_of report.kind)) q ≤ report.volume
   -- the away market shows nothing better than the price
-  pub nothing-better : (side : Side) (q : ℕ) → Better side q report.price → k.after side q ≡ 0
+  pub nothing_better : (side : Side) (q : ℕ) → Better side q report.price → k.after side q ≡ 0
 
 -- an opening, with or without a trade
 pub record Opens (terms : Terms) (k : Tick) (report : Report) (found left : List Row) : Type 0 where
   -- the rows are the same interest, each contract in one of four places
   pub same : SameRows found left
   -- what is reported as routed and cancelled is what reading the rows answers, added up
-  pub routed-buys : report.buys.routed ≡ routed_on Buy left
-  pub routed-sells : report.sells.routed ≡ routed_on Sell left
-  pub cancelled-buys : report.buys.cancelled ≡ cancelled_on Buy left
-  pub cancelled-sells : report.sells.cancelled ≡ cancelled_on Sell left
+  pub routed_buys : report.buys.routed ≡ routed_on Buy left
+  pub routed_sells : report.sells.routed ≡ routed_on Sell left
+  pub cancelled_buys : report.buys.cancelled ≡ cancelled_on Buy left
+  pub cancelled_sells : report.sells.cancelled ≡ cancelled_on Sell left
   -- away counts are those before less what the rows of the other side sent, never below 0
   pub away : (side : Side) (q : ℕ) → k.after side q ≡ k.before side q - routed_on (opposite side) left
   -- without a price nothing trades
@@ -145,4 +145,4 @@ is_refused (Ticks k (Err refusal)) = true
 -- a refused call changes nothing, and an open series refuses every call
 pub record Shut (terms : Terms) (s : State) : Type 0 where
   pub refused : (e : Event) (t : State) → Step terms s e t → is_refused e ≡ true → t ≡ s
-  pub open-refuses : (e : Event) (t : State) → Step terms s e t → is_open s.stage ≡ true → is_refused e ≡ true
+  pub open_refuses : (e : Event) (t : State) → Step terms s e t → is_open s.stage ≡ true → is_refused e ≡ true

@@ -72,20 +72,20 @@ abbrev between : ℕ → ℕ → Range
 between low high = record { low = low; high = high }
 
 pub record WorkedCases : Type 0 where
-  pub one-side-larger : alone 0 (order Buy Other 100 110 ∷ order Sell Other 50 100 ∷ []) ≡ choice 110 50 (Buys 50)
+  pub one_side_larger : alone 0 (order Buy Other 100 110 ∷ order Sell Other 50 100 ∷ []) ≡ choice 110 50 (Buys 50)
   pub both_equal : alone 0 (order Buy Other 100 110 ∷ order Sell Other 100 100 ∷ []) ≡ choice 105 100 Nothing
-  pub half-cent : alone 0 (order Buy Other 10 105 ∷ order Sell Other 10 100 ∷ []) ≡ choice 103 10 Nothing
-  pub half-cent-by-close : alone 90 (order Buy Other 10 105 ∷ order Sell Other 10 100 ∷ []) ≡ choice 102 10 Nothing
+  pub half_cent : alone 0 (order Buy Other 10 105 ∷ order Sell Other 10 100 ∷ []) ≡ choice 103 10 Nothing
+  pub half_cent_by_close : alone 90 (order Buy Other 10 105 ∷ order Sell Other 10 100 ∷ []) ≡ choice 102 10 Nothing
   pub tie : alone 0 (crossing 100) ≡ choice 104 50 (Buys 100)
-  pub more-sells : alone 0 (crossing 120) ≡ choice 105 50 (Sells 120)
-  pub better-offers : against (offering 25 103) routable ≡ choice 105 25 (Sells 15)
-  pub too-many-better : against (offering 31 103) routable ≡ None
-  pub pro-rata : size_shares 10 (holding Fixed 4 ∷ holding Other 7 ∷ holding Other 5 ∷ holding Other 3 ∷ []) ≡ 4 ∷ 3 ∷ 2 ∷ 1 ∷ []
+  pub more_sells : alone 0 (crossing 120) ≡ choice 105 50 (Sells 120)
+  pub better_offers : against (offering 25 103) routable ≡ choice 105 25 (Sells 15)
+  pub too_many_better : against (offering 31 103) routable ≡ None
+  pub pro_rata : size_shares 10 (holding Fixed 4 ∷ holding Other 7 ∷ holding Other 5 ∷ holding Other 3 ∷ []) ≡ 4 ∷ 3 ∷ 2 ∷ 1 ∷ []
   pub sent : counted paired 103 25 ≡ 25
-  pub sent-102 : left 102 ≡ 0
-  pub sent-103 : left 103 ≡ 5
-  pub sent-104 : left 104 ≡ 10
-  pub range-of-200-210 : quoted 200 210 ≡ between 180 230
-  pub range-of-199-210 : quoted 199 210 ≡ between 189 220
+  pub sent_102 : left 102 ≡ 0
+  pub sent_103 : left 103 ≡ 5
+  pub sent_104 : left 104 ≡ 10
+  pub range_of_200_210 : quoted 200 210 ≡ between 180 230
+  pub range_of_199_210 : quoted 199 210 ≡ between 189 220
   pub valid : valid_quote 199 249 ≡ true
   pub too_wide : valid_quote 199 250 ≡ false

@@ -63,7 +63,7 @@ quick-clean x range (Some c) within best crosses = by (eqb c.through 0) refl
     by : (b : Bool) → eqb c.through 0 ≡ b → cond (eqb c.through 0) here None ≡ cond (eqb (crossing x.rows c.price) (crossable x.permitted x.rows) && eqb c.through 0) here None
     by true e =
         let up : (q : ℕ) → crossing x.rows q ≤ crossing x.rows c.price = λ q. omega (arith, crosses.crossed, crosses.most (eqb-true c.through 0 e) q) in
-        let is = most-is x.permitted x.rows (crossable x.permitted x.rows) c.price (most-crossing 100000 x.permitted x.rows within) best.on-ladder up in
+        let is = most-is x.permitted x.rows (crossable x.permitted x.rows) c.price (most-crossing 100000 x.permitted x.rows within) best.on_ladder up in
         cond-true _ here None e ∙ sym (cond-true _ here None (and_from _ _ (eq-eqb _ _ is) e))
     by false e = cond-false _ here None e ∙ sym (cond-false _ here None (and_right _ _ e))
 

@@ -6,4 +6,4 @@ use Rattle.specimens.proofs.worked_cases.Goals as goal
 
 pub returns : goal.returns
 unfolding least_at_or_above least_of greatest_at_or_below greatest_of band_of
-returns c = record { one-side-larger = refl; both_equal = refl; half-cent = refl; half-cent-by-close = refl; tie = refl; more-sells = refl; better-offers = refl; too-many-better = refl; pro-rata = refl; sent = refl; sent-102 = refl; sent-103 = refl; sent-104 = refl; range-of-200-210 = refl; range-of-199-210 = refl; valid = refl; too_wide = refl }
+returns c = record { one_side_larger = refl; both_equal = refl; half_cent = refl; half_cent_by_close = refl; tie = refl; more_sells = refl; better_offers = refl; too_many_better = refl; pro_rata = refl; sent = refl; sent_102 = refl; sent_103 = refl; sent_104 = refl; range_of_200_210 = refl; range_of_199_210 = refl; valid = refl; too_wide = refl }

@@ -7,7 +7,7 @@ use Rattle.clearing.specs.declared.opening.Report.{Report}
 use Rattle.clearing.specs.Reports.{report_of, ShowsBest}
 use Rattle.clearing.proofs.Shown.{best-told}
 use Rattle.clearing.proofs.Composed.{settled_is, after-is-rows}
-use Rattle.clearing.proofs.Theorems.{rows-kept, trades-volume, trades-within, best-first, nothing-better, spent-at, spent-own, stays-quiet, rests-short, left-all}
+use Rattle.clearing.proofs.Theorems.{rows-kept, trades-volume, trades-within, best-first, nothing_better, spent-at, spent-own, stays-quiet, rests-short, left-all}
 use Rattle.clearing.proofs.carry.carry_out.Goals as goal
 
 pub returns : goal.returns
@@ -43,7 +43,7 @@ returns g c =
       volume = trades-volume permitted shares long within whole counts worsens edge o rows sound edges done after left done-is after_is left_is;
       limits = trades-within permitted shares long within whole counts worsens edge o rows sound edges done after left done-is after_is left_is;
       priority = best-first permitted shares long within whole counts worsens edge o rows sound edges done after left done-is after_is left_is;
-      better = nothing-better permitted shares long within whole counts worsens edge o rows sound edges done after left done-is after_is left_is;
+      better = nothing_better permitted shares long within whole counts worsens edge o rows sound edges done after left done-is after_is left_is;
       spent = spent-at permitted shares long within whole counts worsens edge o rows sound edges done after left done-is after_is left_is;
       spent_own = spent-own permitted shares long within whole counts worsens edge o rows sound edges done after left done-is after_is left_is;
       quiet = stays-quiet permitted shares long within whole counts worsens edge o rows sound edges done after left done-is after_is left_is;
