@@ -2,7 +2,7 @@
 """Respells the repository's own definitions and lemmas: a word in lower camel case becomes snake case (rowsOf, rows_of), and so does a field of
 a record in specs/ that has a dash (away-bid, away_bid). In pages of definitions a word of std that has two names gets the one that clauses use.
 
-usage: python3 tools/respell.py [--try]    at the top of the repository, after port.py; --try only says what it would do
+usage: python3 tools/respell.py [--try]    at the top of the repository, after the kit's port.py; --try only says what it would do
 
 Words are those that a file of specs/ or proofs/ declares (definitions, lemmas, constructors, fields), the ghost members of src/, and the names that imports give.
 They are respelled in every .antt file, and in .rt files outside comments and strings, where Rust itself has no such word.

@@ -6,6 +6,7 @@ pub mod Sizes
 pub mod InOrder
 pub mod ProRata
 pub mod Promises
+-- The lemmas by which the rules prove the laws of sharing.
 pub mod Keeping
 pub mod InOrders
 pub mod PartFacts
