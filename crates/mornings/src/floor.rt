@@ -1,6 +1,6 @@
 //! The auction that a script plays.
 use crate::venues::Venues;
-use answers::{AuctionAnswer, OpenedAnswer};
+use answers::{AuctionAnswer, MessageAnswer, OpenedAnswer, OrderAnswer};
 use auction::Auction;
 use book::row::{Order, Quote, Reading, TakenBack};
 use calls::{AuctionCall, NamedSettings};
@@ -79,13 +79,13 @@ fn tick(
             reason: reason.number(),
         },
         TickAnswer::Holds => AuctionAnswer::Holds,
-        TickAnswer::Message(message) => AuctionAnswer::Message {
+        TickAnswer::Message(message) => AuctionAnswer::Message(MessageAnswer {
             number: message.number,
             side: message.side,
             volume: message.volume,
             imbalance: message.imbalance,
             price: message.price,
-        },
+        }),
         TickAnswer::Opened(report) => AuctionAnswer::Opened(opened(report)),
     })
 }
@@ -104,14 +104,14 @@ fn opened(report: Report) -> OpenedAnswer {
 
 fn told(reading: Option<Reading>) -> AuctionAnswer {
     match reading {
-        Some(row) => AuctionAnswer::Order {
+        Some(row) => AuctionAnswer::Order(OrderAnswer {
             traded: row.traded,
             routed: row.routed,
             cancelled: row.cancelled,
             left: row.left,
             working: row.working,
             shown: row.shown,
-        },
+        }),
         None => AuctionAnswer::Nothing,
     }
 }
