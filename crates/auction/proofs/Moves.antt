@@ -1,5 +1,5 @@
 -- The stage to which an auction moves itself is the one that its answer tells.
-use Rattle.std.proofs.Common.{◌≡◌, ℕ, suc, ◌+◌, ◌-◌, Bool, true, false, eqb, List, ◌∷◌, Some, None, Ok, Err, Option, sym, refl, ap, ◌∙◌, subst, inl, inr, arith}
+use Rattle.std.proofs.Common.{◌≡◌, ℕ, suc, ◌+◌, ◌-◌, Bool, true, false, eqb, List, ◌∷◌, Some, None, Ok, Err, Option, Result, sym, refl, ap, ◌∙◌, subst, inl, inr, arith}
 use Rattle.std.proofs.lemmas.Bool.{cases_Bool, cond-true, cond-false}
 use Rattle.interest.specs.declared.Side.{Side}
 use Rattle.interest.specs.Sides.{opposite}
@@ -23,7 +23,8 @@ use Rattle.stages.specs.declared.stage.Decision.TheVariants.{Wait, Hold, Tell, O
 use Rattle.stages.specs.Stages.{due, stage_after, next_stage, stage_by}
 use Rattle.stages.specs.Waits.{reason_to_wait}
 use Rattle.stages.specs.Messages.{message_of}
-use Rattle.stages.specs.Looks.{Scene, scene, range_of, routing_choice, quoted_choice, cleanly, exchange_opening, forced_opening, at_once}
+use Rattle.pricing.specs.Scenes.{Scene, scene}
+use Rattle.stages.specs.Looks.{range_of, routing_choice, quoted_choice, cleanly, exchange_opening, forced_opening, at_once}
 use Rattle.stages.specs.Decisions.{opens_or, last_call, decision_by, waits_or}
 use Rattle.runs.specs.States.{Terms, State}
 use Rattle.runs.specs.Ticks.{Tick, Worsening, tick_cause, decision_at, rows_by, told_by, CarriedBy, Ticked}
@@ -31,7 +32,7 @@ use Rattle.runs.specs.Histories.{Event}
 use Rattle.runs.specs.Laws.{Run, Step}
 use Rattle.runs.specs.Laws.Run.{next}
 use Rattle.auction.specs.declared.auction.Auction.{Auction}
-use Rattle.auction.specs.Auctions.{view, terms_of, Reached}
+use Rattle.auction.specs.Auctions.{view, terms_of, Kept, Reached}
 use Rattle.auction.specs.Acts.{stage_acted}
 
 -- the number of a message, and no number where there is none
@@ -90,38 +91,54 @@ stage-told terms s k left Hold e = refl
 stage-told terms s k left (Tell m) e = moved terms.settings k.time (scene terms.permitted terms.settings.close s.rows k.before) s.stage (due s.stage k.time) m (past-wait (reason_to_wait terms.settings s.rows k.before k.time k.underlying) _ m (sym e))
 stage-told terms s k left (Open o) e = refl
 
+-- an answer that tells only whether there is a cause
+abbrev pub passed : Result (Unit {0}) Refusal
+passed = Ok tt
+
+abbrev pub checked : Option Refusal → Result (Unit {0}) Refusal
+checked v = answered v tt
+
+pub no-cause : (v : Option Refusal) → passed ≡ checked v → v ≡ None
+no-cause None e = refl
+no-cause (Some refusal) e = absurd (let z : ◌≡◌ {A = ℕ} 0 1 = cc in omega arith)
+
+pub one-cause : (v : Option Refusal) (refusal : Refusal) → Err refusal ≡ checked v → v ≡ Some refusal
+one-cause None refusal e = absurd (let z : ◌≡◌ {A = ℕ} 0 1 = cc in omega arith)
+one-cause (Some other) refusal e = let same : other ≡ refusal = cc in ap Some same
+
 unsent : (n m : ℕ) → n ≡ n - (m - m)
 unsent n m = omega arith
 
 -- a tick that is refused
-pub tick-refused : (terms : Terms) (s t : State) (k : Tick) (refusal : Refusal) → Worsening k.before → Some refusal ≡ tick_cause s k.time k.underlying → t ≡ s → ((side : Side) (q : ℕ) → k.after side q ≡ k.before side q) → Ticked terms s k (Err refusal) t
-tick-refused terms s t k refusal shown e stays same = record {
+pub tick-refused : (terms : Terms) (s t : State) (k : Tick) (r : Result TickAnswer Refusal) (refusal : Refusal) → r ≡ Err refusal → Worsening k.before → Err refusal ≡ checked (tick_cause s k.time k.underlying) → t ≡ s → ((side : Side) (q : ℕ) → k.after side q ≡ k.before side q) → Ticked terms s k r t
+tick-refused terms s t k r refusal is shown e stays same = subst (λ (x : Result TickAnswer Refusal). Ticked terms s k x t) (sym is) (record {
   shown = shown;
-  answer = ap (λ (w : Option Refusal). answered w (told_by (decision_at terms s k) (rows_by terms k.before (decision_at terms s k) s.rows))) e;
+  answer = ap (λ (w : Option Refusal). answered w (told_by (decision_at terms s k) (rows_by terms k.before (decision_at terms s k) s.rows))) (sym (one-cause (tick_cause s k.time k.underlying) refusal e));
   state = stays;
   counts = λ side q. same side q ∙ unsent (k.before side q) (routed_on (opposite side) s.rows) ∙ ap (λ (u : State). counts_left k.before s.rows u.rows side q) (sym stays);
   carried = tt;
-}
+})
 
 pub same-state : (r r' : List Row) (x x' : Stage) (n n' : ℕ) → r ≡ r' → x ≡ x' → n ≡ n' → ◌≡◌ {A = State} (record { rows = r; stage = x; last = n }) (record { rows = r'; stage = x'; last = n' })
 same-state r r' x x' n n' er ex en = cc
 
 -- a tick that does what was decided
-tick-done : (terms : Terms) (s : State) (k : Tick) (d : Decision) (answer : TickAnswer) (left : List Row) (moved_to : Stage) (last : ℕ) → Worsening k.before → None ≡ tick_cause s k.time k.underlying → d ≡ decision_at terms s k → answer ≡ told_by d left → left ≡ rows_by terms k.before d s.rows → moved_to ≡ stage_acted terms.settings k.time d s.stage → last ≡ k.time
+tick-done : (terms : Terms) (s : State) (k : Tick) (d : Decision) (answer : TickAnswer) (left : List Row) (moved_to : Stage) (last : ℕ) → Worsening k.before → passed ≡ checked (tick_cause s k.time k.underlying) → d ≡ decision_at terms s k → answer ≡ told_by d left → left ≡ rows_by terms k.before d s.rows → moved_to ≡ stage_acted terms.settings k.time d s.stage → last ≡ k.time
     → ((side : Side) (q : ℕ) → k.after side q ≡ counts_left k.before s.rows left side q) → CarriedBy d k s.rows left → Ticked terms s k (Ok answer) (record { rows = left; stage = moved_to; last = last })
-tick-done terms s k d answer left moved_to last shown none is told rows moved at counts carried =
+tick-done terms s k d answer left moved_to last shown none-told is told rows moved at counts carried =
+    let none = no-cause (tick_cause s k.time k.underlying) none-told in
     let all : left ≡ rows_by terms k.before (decision_at terms s k) s.rows = rows ∙ ap (λ (e : Decision). rows_by terms k.before e s.rows) is in
     let by : moved_to ≡ stage_by terms.settings k.time answer s.stage = moved ∙ stage-told terms s k left d is ∙ ap (λ (a : TickAnswer). stage_by terms.settings k.time a s.stage) (sym told) in
     record {
       shown = shown;
-      answer = ap Ok (told ∙ ap (told_by d) all ∙ ap (λ (e : Decision). told_by e (rows_by terms k.before (decision_at terms s k) s.rows)) is) ∙ ap (λ (w : Option Refusal). answered w (told_by (decision_at terms s k) (rows_by terms k.before (decision_at terms s k) s.rows))) none;
+      answer = ap Ok (told ∙ ap (told_by d) all ∙ ap (λ (e : Decision). told_by e (rows_by terms k.before (decision_at terms s k) s.rows)) is) ∙ ap (λ (w : Option Refusal). answered w (told_by (decision_at terms s k) (rows_by terms k.before (decision_at terms s k) s.rows))) (sym none);
       state = same-state left _ moved_to _ last k.time all by at;
       counts = counts;
       carried = subst (λ (e : Decision). CarriedBy e k s.rows left) is carried;
     }
 
 -- the same, where the clock has moved before it is decided
-pub tick-after : (terms terms' : Terms) (s s' : State) (k : Tick) (d : Decision) (answer : TickAnswer) (left : List Row) (moved_to : Stage) (last : ℕ) → terms' ≡ terms → s'.rows ≡ s.rows → s'.stage ≡ s.stage → Worsening k.before → None ≡ tick_cause s k.time k.underlying → d ≡ decision_at terms' s' k → answer ≡ told_by d left → left ≡ rows_by terms' k.before d s'.rows → moved_to ≡ stage_acted terms'.settings k.time d s'.stage → last ≡ k.time
+pub tick-after : (terms terms' : Terms) (s s' : State) (k : Tick) (d : Decision) (answer : TickAnswer) (left : List Row) (moved_to : Stage) (last : ℕ) → terms' ≡ terms → s'.rows ≡ s.rows → s'.stage ≡ s.stage → Worsening k.before → passed ≡ checked (tick_cause s k.time k.underlying) → d ≡ decision_at terms' s' k → answer ≡ told_by d left → left ≡ rows_by terms' k.before d s'.rows → moved_to ≡ stage_acted terms'.settings k.time d s'.stage → last ≡ k.time
     → ((side : Side) (q : ℕ) → k.after side q ≡ counts_left k.before s'.rows left side q) → CarriedBy d k s'.rows left → Ticked terms s k (Ok answer) (record { rows = left; stage = moved_to; last = last })
 tick-after terms terms' s s' k d answer left moved_to last et er es shown none is told rows moved at counts carried =
     tick-done terms s k d answer left moved_to last shown none
@@ -140,5 +157,5 @@ pub same-terms : (p p' : ℕ → Bool) (f f' : ℕ → List Holding → List ℕ
 same-terms p p' f f' x x' ep ef ex = cc
 
 -- a step that changes nothing of what an auction goes by extends every run that led to it
-pub extends : {L R : Type 0} (permitted : L → ℕ → Bool) (shares : R → ℕ → List Holding → List ℕ) (a b : Auction L R) (e : Event) → b.ladder ≡ a.ladder → b.rule ≡ a.rule → b.settings ≡ a.settings → Step (terms_of permitted shares a) (view a) e (view b) → (h : List Event) → Reached permitted shares h a → Reached permitted shares (e ∷ h) b
-extends permitted shares a b e el er es step h run = subst (λ (t : Terms). Run t (e ∷ h) (view b)) (same-terms _ _ _ _ _ _ (ap permitted (sym el)) (ap shares (sym er)) (sym es)) (next run step)
+pub extends : {L R : Type 0} (permitted : L → ℕ → Bool) (shares : R → ℕ → List Holding → List ℕ) (a b : Auction L R) (e : Event) → Kept a b → Step (terms_of permitted shares a) (view a) e (view b) → (h : List Event) → Reached permitted shares h a → Reached permitted shares (e ∷ h) b
+extends permitted shares a b e kept step h run = subst (λ (t : Terms). Run t (e ∷ h) (view b)) (same-terms _ _ _ _ _ _ (ap permitted (sym kept.ladder)) (ap shares (sym kept.rule)) (sym kept.settings)) (next run step)

@@ -28,9 +28,7 @@ pub record Kept {L R : Type 0} (a b : Auction L R) : Type 0 where
 pub record Stays {L R : Type 0} (a b : Auction L R) : Type 0 where
   pub stage : b.stage ≡ a.stage
   pub last : b.last ≡ a.last
-  pub ladder : b.ladder ≡ a.ladder
-  pub rule : b.rule ≡ a.rule
-  pub settings : b.settings ≡ a.settings
+  pub kept : Kept a b
 
 -- a history leads from a new auction to this one
 abbrev pub Reached : {L R : Type 0} → (L → ℕ → Bool) → (R → ℕ → List Holding → List ℕ) → List Event → Auction L R → Type 0

@@ -1,21 +1,19 @@
 //! Entering and withdrawing orders.
 ghost use Rattle.std.specs.Prelude.{◌≡◌, List, ◌∷◌, is_ok, IfOk, if◌then◌else◌, OnOk};
 ghost use Rattle.book.specs.Books.{rows_of};
-ghost use Rattle.book.specs.Edits.{added, without_order};
+ghost use Rattle.book.specs.Edits.{added, without_order, answered};
 ghost use Rattle.book.specs.Effects.{OrderAdded, OrderOut};
-ghost use Rattle.runs.specs.Steps.{permitted_limit, enter_cause, enter_answer, Entered, withdraw_answer, Withdrew};
+ghost use Rattle.runs.specs.Steps.{permitted_limit, enter_answer, Entered, withdraw_answer, Withdrew};
 ghost use Rattle.runs.specs.Histories.{Event};
 ghost use Rattle.runs.specs.Histories.Event.{Enters, Withdraws};
 ghost use Rattle.auction.specs.Auctions.{view, terms_of, Kept, Stays, Reached};
+ghost use Rattle.auction.specs.Acts.{order_cause};
 
 use crate::auction::Auction;
 use book::row::Order;
 use interest::{Limit, Refusal, is_size};
 use ladder::Ladder;
 use sharing::SharingRule;
-
-/// How many orders may stand together.
-const ORDERS: usize = 96;
 
 /// Whether a ladder permits a limit; market is on every ladder.
 fn permits_limit<L: Ladder>(ladder: &L, limit: Limit) -> bool
@@ -28,26 +26,20 @@ fn permits_limit<L: Ladder>(ladder: &L, limit: Limit) -> bool
 }
 
 impl<L: Ladder, R: SharingRule> Auction<L, R> {
-    /// The first cause to refuse an order while the series is not open.
-    fn enter_cause(&self, order: Order) -> Option<Refusal>
-        ensures { result ≡ enter_cause (L.Ladder.permitted self.now.ladder) order (rows_of self.now.book) }
+    /// Refuses an order for its number, its size or its limit, in this order; the book refuses it for what stands.
+    fn check_order(&self, order: Order) -> Result<(), Refusal>
+        ensures { result ≡ answered (order_cause (L.Ladder.permitted self.now.ladder) order) tt }
     {
         if order.number == 0 {
-            return Some(Refusal::NumberOutOfBounds);
+            return Err(Refusal::NumberOutOfBounds);
         }
         if !is_size(order.size) {
-            return Some(Refusal::SizeOutOfBounds);
+            return Err(Refusal::SizeOutOfBounds);
         }
         if !permits_limit(&self.ladder, order.limit) {
-            return Some(Refusal::PriceNotPermitted);
+            return Err(Refusal::PriceNotPermitted);
         }
-        if self.book.has_order(order.number) {
-            return Some(Refusal::NumberStanding);
-        }
-        if ORDERS <= self.book.orders() {
-            return Some(Refusal::BookFull);
-        }
-        None
+        Ok(())
     }
 
     /// Adds an order to the table unless there is a cause to refuse it.
@@ -57,13 +49,9 @@ impl<L: Ladder, R: SharingRule> Auction<L, R> {
         ensures effects { OnOk result (OrderAdded order (rows_of self.old.book) (rows_of self.new.book)) }
         ensures stays { Stays self.old self.new }
     {
-        if self.stage.is_open() {
-            return Err(Refusal::SeriesOpen);
-        }
-        match self.enter_cause(order) {
-            Some(refusal) => Err(refusal),
-            None => self.book.add(order),
-        }
+        self.still_shut()?;
+        self.check_order(order)?;
+        self.book.add(order)
     }
 
     /// Enters an order, and answers the size accepted.
@@ -82,9 +70,7 @@ impl<L: Ladder, R: SharingRule> Auction<L, R> {
         ensures effects { IfOk result (λ left. OrderOut number left (rows_of self.old.book) (rows_of self.new.book)) }
         ensures stays { Stays self.old self.new }
     {
-        if self.stage.is_open() {
-            return Err(Refusal::SeriesOpen);
-        }
+        self.still_shut()?;
         self.book.take_out(number)
     }
 

@@ -10,12 +10,13 @@ use sharing::SharingRule;
 use stages::{Settings, Stage};
 
 impl<L: Ladder, R: SharingRule> Auction<L, R> {
-    /// An auction with no row, waiting, where every setting is in its bounds.
-    fn new(ladder: L, rule: R, settings: Settings) -> Result<Auction<L, R>, Refusal>
+    /// An auction with no row, waiting; refused where a setting is out of its bounds.
+    pub fn make(ladder: L, rule: R, settings: Settings) -> Result<Auction<L, R>, Refusal>
     where
         L: Drop,
         R: Drop,
-        ensures { Made ladder rule settings result }
+        ensures made { Made ladder rule settings result }
+        ensures run { IfOk result (Reached L.Ladder.permitted R.SharingRule.shares []) }
     {
         if !settings.in_bounds() {
             return Err(Refusal::SettingOutOfBounds);
@@ -28,16 +29,5 @@ impl<L: Ladder, R: SharingRule> Auction<L, R> {
             stage: Stage::Waiting,
             last: 0,
         })
-    }
-
-    /// An auction with no row, waiting; refused where a setting is out of its bounds.
-    pub fn make(ladder: L, rule: R, settings: Settings) -> Result<Auction<L, R>, Refusal>
-    where
-        L: Drop,
-        R: Drop,
-        ensures made { Made ladder rule settings result }
-        ensures run { IfOk result (Reached L.Ladder.permitted R.SharingRule.shares []) }
-    {
-        Auction::new(ladder, rule, settings)
     }
 }

@@ -3,19 +3,21 @@ ghost use Rattle.std.specs.Prelude.{◌≡◌};
 ghost use Rattle.book.specs.Books.{rows_of};
 ghost use Rattle.ranges.specs.Ranges.{quick_range};
 ghost use Rattle.pricing.specs.declared.figures.Mode.TheVariants.{Exchange as ExchangeMode, Routing as RoutingMode};
-ghost use Rattle.stages.specs.Looks.{scene, quotes_of, away_of, range_of, chosen_in};
+ghost use Rattle.pricing.specs.Scenes.{scene, scene_of, chosen_in};
+ghost use Rattle.stages.specs.Looks.{quotes_of, away_of, range_of};
 
 use crate::auction::Auction;
 use ladder::Ladder;
 use market::ShownMarket;
 use pricing::figures::Mode;
-use pricing::search::{Choice, choose};
-use ranges::{Quotes, Range, opening_range, quick_range};
+use pricing::scene::Scene;
+use pricing::search::Choice;
+use ranges::{Quotes, Range};
 use sharing::SharingRule;
-use stages::openings::{away_of, quotes_of};
+use stages::openings::best_prices;
 
 /// The best prices of the quotes, the quick range if there is one, the opening range, and both choices in it.
-#[derive(Clone, Copy)]
+#[derive(Clone, Copy, PartialEq, Eq, Debug)]
 pub struct Outlook {
     pub quotes: Quotes,
     pub quick: Option<Range>,
@@ -25,18 +27,16 @@ pub struct Outlook {
 }
 
 impl<L: Ladder, R: SharingRule> Auction<L, R> {
-    fn choice<M: ShownMarket>(&self, market: &M, mode: Mode, range: Range) -> Option<Choice>
-        ensures { result ≡ chosen_in (scene (L.Ladder.permitted self.now.ladder) self.now.settings.close (rows_of self.now.book) (M.ShownMarket.shown market.now)) mode range }
+    /// What a price is looked for in, beside an away market.
+    pub(crate) fn scene<'a, M: ShownMarket>(&'a self, market: &'a M) -> Scene<'a, L, M>
+        ensures { scene_of L.Ladder.permitted M.ShownMarket.shown result ≡ scene (L.Ladder.permitted self.now.ladder) self.now.settings.close (rows_of self.now.book) (M.ShownMarket.shown market.now) }
     {
-        choose(
-            &self.ladder,
-            &self.book,
+        Scene {
+            ladder: &self.ladder,
+            close: self.settings.close,
+            book: &self.book,
             market,
-            mode,
-            range.low,
-            range.high,
-            self.settings.close,
-        )
+        }
     }
 
     /// What the next tick would find beside that away market.
@@ -47,15 +47,15 @@ impl<L: Ladder, R: SharingRule> Auction<L, R> {
         ensures exchange { result.exchange ≡ chosen_in (scene (L.Ladder.permitted self.now.ladder) self.now.settings.close (rows_of self.now.book) (M.ShownMarket.shown market.now)) ExchangeMode result.opening }
         ensures routing { result.routing ≡ chosen_in (scene (L.Ladder.permitted self.now.ladder) self.now.settings.close (rows_of self.now.book) (M.ShownMarket.shown market.now)) RoutingMode result.opening }
     {
-        let quotes = quotes_of(&self.book);
-        let away = away_of(market);
-        let opening = opening_range(quotes, away);
+        let best = best_prices(&self.book, market);
+        let opening = best.opening_range();
+        let scene = self.scene(market);
         Outlook {
-            quotes,
-            quick: quick_range(quotes, away),
+            quotes: best.quotes,
+            quick: best.quick_range(),
             opening,
-            exchange: self.choice(market, Mode::Exchange, opening),
-            routing: self.choice(market, Mode::Routing, opening),
+            exchange: scene.choose(Mode::Exchange, opening),
+            routing: scene.choose(Mode::Routing, opening),
         }
     }
 }

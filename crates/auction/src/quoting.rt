@@ -1,7 +1,7 @@
 //! Giving and pulling quotes.
 ghost use Rattle.std.specs.Prelude.{◌≡◌, List, ◌∷◌, is_ok, IfOk, if◌then◌else◌};
 ghost use Rattle.book.specs.Books.{rows_of};
-ghost use Rattle.book.specs.Edits.{sized_quote, quoted, without_quote};
+ghost use Rattle.book.specs.Edits.{quoted, without_quote, answered};
 ghost use Rattle.book.specs.Effects.{QuoteSet, QuoteOut};
 ghost use Rattle.runs.specs.Steps.{permitted_quote, quote_cause, quote_answer, Quoted, pull_answer, Pulled};
 ghost use Rattle.runs.specs.Histories.{Event};
@@ -10,51 +10,39 @@ ghost use Rattle.auction.specs.Auctions.{view, terms_of, Kept, Stays, Reached};
 
 use crate::auction::Auction;
 use book::row::{Quote, TakenBack};
-use interest::{Refusal, is_maker, is_size};
+use interest::{Refusal, is_maker};
 use ladder::Ladder;
 use ranges::is_valid;
 use sharing::SharingRule;
-
-/// Whether the sizes of a quote are in bounds; no bid has none.
-fn is_sized(quote: Quote) -> bool
-    ensures { result ≡ sized_quote quote }
-{
-    let bid_sized = if quote.bid == 0 {
-        quote.bid_size == 0
-    } else {
-        is_size(quote.bid_size)
-    };
-    bid_sized & is_size(quote.offer_size)
-}
 
 /// Whether a ladder permits the prices of a quote; no bid is on every ladder.
 fn permits_quote<L: Ladder>(ladder: &L, quote: Quote) -> bool
     ensures { result ≡ permitted_quote (L.Ladder.permitted ladder.now) quote }
 {
-    ((quote.bid == 0) | ladder.permits(quote.bid)) & ladder.permits(quote.offer)
+    (quote.bid == 0 || ladder.permits(quote.bid)) && ladder.permits(quote.offer)
 }
 
 impl<L: Ladder, R: SharingRule> Auction<L, R> {
-    /// The first cause to refuse a quote while the series is not open.
-    fn quote_cause(&self, maker: u32, quote: Quote) -> Option<Refusal>
-        ensures { result ≡ quote_cause (L.Ladder.permitted self.now.ladder) maker quote }
+    /// Refuses a quote for the first cause that applies while the series is not open.
+    fn check_quote(&self, maker: u32, quote: Quote) -> Result<(), Refusal>
+        ensures { result ≡ answered (quote_cause (L.Ladder.permitted self.now.ladder) maker quote) tt }
     {
         if !is_maker(maker) {
-            return Some(Refusal::NumberOutOfBounds);
+            return Err(Refusal::NumberOutOfBounds);
         }
-        if !is_sized(quote) {
-            return Some(Refusal::SizeOutOfBounds);
+        if !quote.is_sized() {
+            return Err(Refusal::SizeOutOfBounds);
         }
         if !permits_quote(&self.ladder, quote) {
-            return Some(Refusal::PriceNotPermitted);
+            return Err(Refusal::PriceNotPermitted);
         }
         if quote.offer <= quote.bid {
-            return Some(Refusal::BidNotBelowOffer);
+            return Err(Refusal::BidNotBelowOffer);
         }
         if !is_valid(quote.bid, quote.offer) {
-            return Some(Refusal::QuoteTooWide);
+            return Err(Refusal::QuoteTooWide);
         }
-        None
+        Ok(())
     }
 
     /// Sets a maker's quote in the table unless there is a cause to refuse it.
@@ -64,13 +52,9 @@ impl<L: Ladder, R: SharingRule> Auction<L, R> {
         ensures effects { IfOk result (λ back. QuoteSet maker quote back (rows_of self.old.book) (rows_of self.new.book)) }
         ensures stays { Stays self.old self.new }
     {
-        if self.stage.is_open() {
-            return Err(Refusal::SeriesOpen);
-        }
-        match self.quote_cause(maker, quote) {
-            Some(refusal) => Err(refusal),
-            None => self.book.set_quote(maker, quote),
-        }
+        self.still_shut()?;
+        self.check_quote(maker, quote)?;
+        self.book.set_quote(maker, quote)
     }
 
     /// Replaces a maker's quote, and answers the old contracts taken back on each side.
@@ -89,9 +73,7 @@ impl<L: Ladder, R: SharingRule> Auction<L, R> {
         ensures effects { IfOk result (λ back. QuoteOut maker back (rows_of self.old.book) (rows_of self.new.book)) }
         ensures stays { Stays self.old self.new }
     {
-        if self.stage.is_open() {
-            return Err(Refusal::SeriesOpen);
-        }
+        self.still_shut()?;
         self.book.take_quote_out(maker)
     }
 

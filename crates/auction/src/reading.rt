@@ -42,13 +42,6 @@ impl<L: Ladder, R: SharingRule> Auction<L, R> {
         self.stage
     }
 
-    /// Where the contracts of a side are.
-    fn contracts(&self, side: Side) -> Totals
-        ensures { result ≡ totals_of side (rows_of self.now.book) }
-    {
-        self.book.totals(side)
-    }
-
     /// Where the contracts of a side are, by what reading its rows answers, added up. The law over whole runs stands here:
     /// it holds of every history that leads to this auction.
     pub fn totals(&self, side: Side) -> Totals
@@ -57,6 +50,6 @@ impl<L: Ladder, R: SharingRule> Auction<L, R> {
         ensures shut { Shut (terms_of L.Ladder.permitted R.SharingRule.shares self.now) (view self.now) }
         ensures balance { (h : List Event) → Reached L.Ladder.permitted R.SharingRule.shares h self.now → accepted side h ≡ withdrawn side h + (result.traded + result.routed + result.cancelled + result.left) }
     {
-        self.contracts(side)
+        self.book.totals(side)
     }
 }

@@ -1,5 +1,5 @@
 -- Lemmas on rows put in and taken out: the edits keep a table sound, and what follows for readings and sums.
-use Rattle.std.proofs.Common.{◌≡◌, ℕ, zero, suc, ◌+◌, ◌-◌, ◌*◌, ◌<◌, ◌≤◌, Bool, true, false, cond, not, ◌&&◌, ◌||◌, eqb, ltb, leb, List, [], ◌∷◌, ◌++◌, Some, None, sum_by, filter, Option, sym, refl, ap, ◌∙◌, subst, inl, inr, arith}
+use Rattle.std.proofs.Common.{◌≡◌, ℕ, zero, suc, ◌+◌, ◌-◌, ◌*◌, ◌<◌, ◌≤◌, Bool, true, false, cond, not, ◌&&◌, ◌||◌, eqb, ltb, leb, List, [], ◌∷◌, ◌++◌, Some, None, Ok, sum_by, filter, Option, sym, refl, ap, ◌∙◌, subst, inl, inr, arith}
 use Rattle.std.specs.Option.{option_map}
 use Rattle.std.specs.List.{AllByRecursion}
 use Rattle.std.proofs.lemmas.Bool.{and_parts, and_from, or_left, or_right, cond-true, cond-false, cond_both, leb-true, leb-false, le-leb, lt-leb, lt-ltb, le-ltb, ltb-true, eqb-true, eqb-false, eq-eqb, ne_eqb, both_ways, cases_Bool, not-true, not-false, not_from_true, not_from_false, true≢false, false≢true}
@@ -22,7 +22,7 @@ use Rattle.book.specs.declared.row.Quote.{Quote}
 use Rattle.book.specs.Rows.{bounded_limit, sound_row, sound_table, every, place, place_by, quote_place, following, owned_by_order, is_order, owned_by_maker, is_quote_of, order_owned, order_count}
 use Rattle.book.specs.Ranks.{of_side, total_of, contracts}
 use Rattle.book.specs.Reads.{is_quote_side, first, stands, reading_of}
-use Rattle.book.specs.Edits.{of_order, owned_before, owned_after, before_maker, after_maker, order_row, quote_row, bid_row, offer_row, quote_rows, placed, added, without_quote, quoted, add_cause, sized_quote, priced_quote, quote_cause, left_in}
+use Rattle.book.specs.Edits.{of_order, owned_before, owned_after, before_maker, after_maker, order_row, quote_row, bid_row, offer_row, quote_rows, placed, added, without_quote, quoted, answered, add_cause, sized_quote, priced_quote, quote_cause, left_in}
 use Rattle.book.specs.Effects.{OthersStay, untouched, accepted_in}
 use Rattle.book.proofs.SoundFacts.{Pairs, Fits, Beside, up_to, others, differs, under, sound-opened, sound-placed, split-place, sum_kept, orders-first, every-all, kept-all, kept-none}
 use Rattle.book.proofs.ReadFacts.{first-none, first-later, first-kept, none-stands, sum_same}
@@ -211,6 +211,10 @@ untouched-sum test rows h =
 pub past-cause : (b : Bool) (cause : Refusal) (rest : Option Refusal) → cond b (Some cause) rest ≡ None → (b ≡ false) × (rest ≡ None)
 past-cause true cause rest h = let z : ◌≡◌ {A = ℕ} 0 1 = cc in absurd (omega arith)
 past-cause false cause rest h = (refl, h)
+
+pub no-cause : (cause : Option Refusal) (x : Unit {0}) → Ok x ≡ answered cause tt → cause ≡ None
+no-cause None x h = refl
+no-cause (Some refusal) x h = cc
 
 -- a new order
 

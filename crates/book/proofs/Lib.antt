@@ -1,8 +1,9 @@
-pub mod ScanFacts
+pub mod TotalFacts
 pub mod SoundFacts
 pub mod ReadFacts
 pub mod EditFacts
 pub mod EffectFacts
 pub mod SumFacts
+pub mod Reduces
 pub mod RewriteFacts
 pub mod RankFacts

@@ -1,10 +1,11 @@
 -- Lemmas on what is read from a list of rows: the first row that passes a test, makers that quote, the best quote, sums.
-use Rattle.std.proofs.Common.{◌≡◌, ℕ, suc, ◌+◌, ◌-◌, ◌<◌, ◌≤◌, min, Bool, true, false, cond, not, ◌&&◌, eqb, leb, ◌⊎◌, List, [], ◌∷◌, ◌++◌, is_some, Some, None, sum_by, count_by, filter, Option, sym, refl, ap, ◌∙◌, subst, inl, inr, arith}
-use Rattle.std.specs.List.{AllByRecursion}
+use Rattle.std.proofs.Common.{◌≡◌, ℕ, zero, suc, ◌+◌, ◌≤◌, Bool, true, false, cond, not, ◌&&◌, ◌||◌, eqb, leb, ◌⊎◌, List, [], ◌∷◌, ◌++◌, is_some, Some, None, sum_by, count_by, filter, fold, Option, sym, refl, ap, ◌∙◌, subst, inl, inr, add-one, arith}
+use Rattle.std.specs.List.{AllByRecursion, list_any, range_with_len, cons_option, filter_map, reduce}
 use Rattle.std.proofs.lemmas.Bool.{and_parts, and_from, and_left, cond-true, cond-false, cond_both, leb-true, eq-eqb, le-ltb, both_ways, cases_Bool, true≢false, false≢true}
 use Rattle.std.proofs.lemmas.Bool.Decides.{nat_tests}
 use Rattle.std.proofs.ByRecursion.{All-weaker}
 use Rattle.std.proofs.lemmas.List.Sums.{sum_by-cons}
+use Rattle.std.proofs.lemmas.Option.{none-some, same_Some}
 use Rattle.interest.specs.declared.Side.{Side}
 use Rattle.interest.specs.declared.Side.TheVariants.{Buy, Sell}
 use Rattle.interest.specs.declared.Class.{Class}
@@ -14,10 +15,10 @@ use Rattle.interest.specs.Bounds.{sized, maker_numbered}
 use Rattle.book.specs.declared.row.Owner.{Owner}
 use Rattle.book.specs.declared.row.Owner.TheVariants.{Order, Quote}
 use Rattle.book.specs.declared.row.Row.{Row}
-use Rattle.book.specs.Rows.{held, bounded_limit, sound_owner, sound_row, sound_table, place, is_quote_of, order_owned, order_count}
+use Rattle.book.specs.Rows.{held, bounded_limit, sound_owner, sound_row, sound_table, is_quote_of, order_owned}
 use Rattle.book.specs.Ranks.{of_side, through_price}
-use Rattle.book.specs.Reads.{first, stands, quoting, quoted_on, price_of, better, best_quote, BestQuote}
-use Rattle.book.proofs.SoundFacts.{sound-owner, sound-opened, orders-first}
+use Rattle.book.specs.Reads.{first, stands, quoting, quoted_on, price_of, quote_price, better, best_quote, limited_at, BestQuote}
+use Rattle.book.proofs.SoundFacts.{sound-owner, sound-opened}
 
 -- the first row that passes a test
 
@@ -41,11 +42,18 @@ none-stands test (r ∷ rs) h =
       | inr e ↦ (e, none-stands test rs (sym (ap by e) ∙ h))
     ]
 
-stands-later : (test : Row → Bool) (r : Row) (rs : List Row) → stands test rs ≡ true → stands test (r ∷ rs) ≡ true
-stands-later test r rs h = cond_both (test r) (Some r) (first test rs) (λ (o : Option Row). is_some o ≡ true) (λ _. refl) (λ _. h)
-
 stands_here : (test : Row → Bool) (r : Row) (rs : List Row) → test r ≡ true → stands test (r ∷ rs) ≡ true
 stands_here test r rs e = ap (λ (o : Option Row). is_some o) (cond-true (test r) (Some r) (first test rs) e)
+
+pub any-stands : (test : Row → Bool) (rows : List Row) → list_any test rows ≡ stands test rows
+any-stands test [] = refl
+any-stands test (r ∷ rs) = elim (cases_Bool (test r)) [
+  | inl e ↦ ap (λ (b : Bool). b || list_any test rs) e ∙ sym (stands_here test r rs e)
+  | inr e ↦ ap (λ (b : Bool). b || list_any test rs) e ∙ any-stands test rs ∙ sym (ap (λ (o : Option Row). is_some o) (cond-false (test r) (Some r) (first test rs) e))
+]
+
+stands-later : (test : Row → Bool) (r : Row) (rs : List Row) → stands test rs ≡ true → stands test (r ∷ rs) ≡ true
+stands-later test r rs h = cond_both (test r) (Some r) (first test rs) (λ (o : Option Row). is_some o ≡ true) (λ _. refl) (λ _. h)
 
 -- a filter that keeps what is sought does not change what is found first
 pub first-kept : (test keep : Row → Bool) → ((r : Row) → test r ≡ true → keep r ≡ true) → (rows : List Row) → first test (filter keep rows) ≡ first test rows
@@ -66,70 +74,49 @@ pub sum_same : (f g : Row → ℕ) (rows : List Row) → AllByRecursion (λ r. f
 sum_same f g [] h = refl
 sum_same f g (r ∷ rs) h = omega (arith, sum_by-cons f r rs, sum_by-cons g r rs, h.0, sum_same f g rs h.1)
 
-pub orders-counted : (rows : List Row) → sound_table rows ≡ true → count_by (λ (r : Row). leb (place r) 0) rows ≡ order_count rows
-orders-counted rows h =
-    sym (sum_same (λ (r : Row). cond (order_owned r.owner) 1 0) (λ (r : Row). cond (leb (place r) 0) 1 0) rows
-    (All-weaker (λ (r : Row). order_owned r.owner ≡ leb (place r) 0) (λ (r : Row). cond (order_owned r.owner) 1 0 ≡ cond (leb (place r) 0) 1 0) (λ r e. ap (λ (b : Bool). cond {A = ℕ} b 1 0) e) rows (orders-first rows (sound-opened rows h).each)))
-
 -- makers that quote
 
-pub quoting-more : (rows : List Row) (m : ℕ) → m < 17 → quoting m (17 - m) rows ≡ cond (stands (is_quote_of m) rows) 1 0 + quoting (m + 1) (17 - (m + 1)) rows
+pub quoting-counted : (rows : List Row) (m n : ℕ) → count_by (λ (k : ℕ). stands (is_quote_of k) rows) (range_with_len m n) ≡ quoting m n rows
 unfolding quoting
-quoting-more rows m lt =
-    let e : 17 - m ≡ suc (17 - (m + 1)) = omega arith in
-    let n : suc m ≡ m + 1 = omega arith in
-    ap (λ (k : ℕ). quoting m k rows) e ∙ ap (λ (k : ℕ). cond (stands (is_quote_of m) rows) 1 0 + quoting k (17 - (m + 1)) rows) n
+quoting-counted rows m zero = refl
+quoting-counted rows m (suc n) =
+    let one : ℕ → ℕ = λ k. cond (stands (is_quote_of k) rows) 1 0 in
+    sum_by-cons one m (range_with_len (m + 1) n) ∙ ap (λ (k : ℕ). one m + k) (quoting-counted rows (m + 1) n) ∙ ap (λ (k : ℕ). one m + quoting k n rows) (add-one m)
 
-pub quoting-done : (rows : List Row) (m : ℕ) → 17 ≤ m → quoting m (17 - m) rows ≡ 0
-unfolding quoting
-quoting-done rows m le =
-    let e : 17 - m ≡ 0 = omega arith in
-    ap (λ (k : ℕ). quoting m k rows) e
-
--- the best quote: a price is as good as another, which is none at 0
+-- the best of prices, which is as good as each of them and is one of them
 
 abbrev AsGood : Side → ℕ → ℕ → Type 0
-AsGood Buy p q = 1 ≤ q → (1 ≤ p) × (q ≤ p)
-AsGood Sell p q = 1 ≤ q → (1 ≤ p) × (p ≤ q)
+AsGood Buy p q = q ≤ p
+AsGood Sell p q = p ≤ q
 
-better-left : (side : Side) (p q : ℕ) → AsGood side (better side p q) p
-better-left Buy p q = λ h. (omega arith, omega arith)
-better-left Sell p q = λ h. (grind (arith, nat_tests), grind (arith, nat_tests))
+good-both : (side : Side) (n p q : ℕ) → AsGood side n (better side p q) → AsGood side n p × AsGood side n q
+good-both Buy n p q h = (omega arith, omega arith)
+good-both Sell n p q h = (omega arith, omega arith)
 
-better-right : (side : Side) (p q : ℕ) → AsGood side (better side p q) q
-better-right Buy p q = λ h. (omega arith, omega arith)
-better-right Sell p q = λ h. (grind (arith, nat_tests), grind (arith, nat_tests))
-
-good-trans : (side : Side) (p q r : ℕ) → AsGood side p q → AsGood side q r → AsGood side p r
-good-trans Buy p q r a b = λ h. let c = b h in let d = a c.0 in (d.0, omega arith)
-good-trans Sell p q r a b = λ h. let c = b h in let d = a c.0 in (d.0, omega arith)
+good-self : (side : Side) (p : ℕ) → AsGood side p p
+good-self Buy p = omega arith
+good-self Sell p = omega arith
 
 better-either : (side : Side) (p q : ℕ) → (better side p q ≡ p) ⊎ (better side p q ≡ q)
 better-either Buy p q = elim (cases_Bool (leb p q)) [ inl e ↦ inr (omega (arith, leb-true p q e)) | inr e ↦ inl (grind (arith, nat_tests)) ]
-better-either Sell p q = elim (cases_Bool (eqb p 0)) [
-  | inl e ↦ inr (cond-true (eqb p 0) q (cond (eqb q 0) p (min p q)) e)
-  | inr e ↦ elim (cases_Bool (eqb q 0)) [
-    | inl f ↦ inl (cond-false (eqb p 0) q (cond (eqb q 0) p (min p q)) e ∙ cond-true (eqb q 0) p (min p q) f)
-    | inr f ↦ elim (cases_Bool (leb p q)) [ inl k ↦ inl (grind (arith, nat_tests)) | inr k ↦ inr (grind (arith, nat_tests)) ]
-  ]
-]
+better-either Sell p q = elim (cases_Bool (leb p q)) [ inl e ↦ inl (omega (arith, leb-true p q e)) | inr e ↦ inr (grind (arith, nat_tests)) ]
 
-abbrev price_in : Side → Row → ℕ
-price_in side r = cond (quoted_on side r) (price_of r.limit) 0
+best-good : (side : Side) (p : ℕ) (ps : List ℕ) → AllByRecursion (AsGood side (fold (better side) p ps)) (p ∷ ps)
+best-good side p [] = (good-self side p, tt)
+best-good side p (q ∷ qs) =
+    let h = best-good side (better side p q) qs in
+    let both = good-both side (fold (better side) p (q ∷ qs)) p q h.0 in
+    (both.0, (both.1, h.1))
 
-all-best : (side : Side) (rows : List Row) → AllByRecursion (λ r. AsGood side (best_quote side rows) (price_in side r)) rows
-all-best side [] = tt
-all-best side (r ∷ rs) =
-    (better-left side (price_in side r) (best_quote side rs), All-weaker (λ s. AsGood side (best_quote side rs) (price_in side s)) (λ s. AsGood side (best_quote side (r ∷ rs)) (price_in side s)) (λ s h. good-trans side (best_quote side (r ∷ rs)) (best_quote side rs) (price_in side s) (better-right side (price_in side r) (best_quote side rs)) h) rs (all-best side rs))
+abbrev IsOneOf : List ℕ → ℕ → Type 0
+IsOneOf [] n = ⊥
+IsOneOf (p ∷ ps) n = (p ≡ n) ⊎ IsOneOf ps n
 
-some-best : (side : Side) (rows : List Row) (p : ℕ) → 1 ≤ p → best_quote side rows ≡ p → stands (λ r. quoted_on side r && eqb (price_of r.limit) p) rows ≡ true
-some-best side [] p low e = absurd (omega arith)
-some-best side (r ∷ rs) p low e = elim (better-either side (price_in side r) (best_quote side rs)) [
-  | inl k ↦ elim (cases_Bool (quoted_on side r)) [
-    | inl t ↦ stands_here (λ s. quoted_on side s && eqb (price_of s.limit) p) r rs (and_from (quoted_on side r) (eqb (price_of r.limit) p) t (eq-eqb (price_of r.limit) p (omega (arith, k, cond-true (quoted_on side r) (price_of r.limit) 0 t))))
-    | inr f ↦ absurd (omega (arith, k, cond-false (quoted_on side r) (price_of r.limit) 0 f))
-  ]
-  | inr k ↦ stands-later (λ s. quoted_on side s && eqb (price_of s.limit) p) r rs (some-best side rs p low (sym k ∙ e))
+best-one : (side : Side) (p : ℕ) (ps : List ℕ) → IsOneOf (p ∷ ps) (fold (better side) p ps)
+best-one side p [] = inl refl
+best-one side p (q ∷ qs) = elim (best-one side (better side p q) qs) [
+  | inl e ↦ elim (better-either side p q) [ inl k ↦ inl (sym k ∙ e) | inr k ↦ inr (inl (sym k ∙ e)) ]
+  | inr h ↦ inr (inr h)
 ]
 
 -- a quote's side in a sound row has a price
@@ -148,37 +135,67 @@ quoted-price side r h q =
     let b = and_parts (eqb (held r) r.size) _ a.1 in
     quotable-price r.owner r.limit r.class (and_parts (bounded_limit r.limit) _ b.1).0 (sound-owner r h) (not-not (order_owned r.owner) (and_parts (not (order_owned r.owner)) (of_side side r) q).0)
 
-good-through : (side : Side) (p x : ℕ) → 1 ≤ x → AsGood side p x → through_price side p (At x) ≡ false
-good-through Buy p x low h = let k = h low in le-ltb p x k.1
-good-through Sell p x low h = let k = h low in le-ltb x p k.1
+-- a price of the rows is the limit of a quote's side
 
-good-low : (side : Side) (p x : ℕ) → 1 ≤ x → AsGood side p x → 1 ≤ p
-good-low Buy p x low h = (h low).0
-good-low Sell p x low h = (h low).0
+limit-at : (l : Limit) (p : ℕ) → price_of l ≡ Some p → l ≡ At p
+limit-at Market p e = absurd (none-some p e)
+limit-at (At x) p e = ap At (same_Some x p e)
 
-at-price : (side : Side) (p : ℕ) (r : Row) → sound_row r ≡ true → AsGood side p (price_in side r) → quoted_on side r ≡ true → (1 ≤ p) × (through_price side p r.limit ≡ false)
-at-price side p r h good q =
-    let k = quoted-price side r h q in
-    let is : price_in side r ≡ k.0 = cond-true (quoted_on side r) (price_of r.limit) 0 q ∙ ap price_of k.1 in
-    let g : AsGood side p k.0 = subst (AsGood side p) is good in
-    (good-low side p k.0 k.2 g, ap (through_price side p) k.1 ∙ good-through side p k.0 k.2 g)
+price-limit : (side : Side) (r : Row) (p : ℕ) → quote_price side r ≡ Some p → (quoted_on side r ≡ true) × (r.limit ≡ At p)
+price-limit side r p e = elim (cases_Bool (quoted_on side r)) [
+  | inl t ↦ (t, limit-at r.limit p (sym (cond-true (quoted_on side r) (price_of r.limit) None t) ∙ e))
+  | inr f ↦ absurd (none-some p (sym (cond-false (quoted_on side r) (price_of r.limit) None f) ∙ e))
+]
 
-best-row : (side : Side) (p : ℕ) (rows : List Row) → AllByRecursion (λ r. sound_row r ≡ true) rows → AllByRecursion (λ r. AsGood side p (price_in side r)) rows → AllByRecursion (λ r. quoted_on side r ≡ true → (1 ≤ p) × (through_price side p r.limit ≡ false)) rows
-best-row side p [] h g = tt
-best-row side p (r ∷ rs) h g = (at-price side p r h.0 g.0, best-row side p rs h.1 g.1)
+one-row : (side : Side) (r : Row) (ps : List ℕ) (p : ℕ) (o : Option ℕ) → quote_price side r ≡ o → IsOneOf (cons_option o ps) p → IsOneOf ps p ⊎ ((quoted_on side r ≡ true) × (r.limit ≡ At p))
+one-row side r ps p None e h = inl h
+one-row side r ps p (Some y) e h = elim h [ inl k ↦ inr (price-limit side r p (e ∙ ap (λ (n : ℕ). Some n) k)) | inr k ↦ inl k ]
+
+one-stands : (side : Side) (rows : List Row) (p : ℕ) → AllByRecursion (λ r. sound_row r ≡ true) rows → IsOneOf (filter_map (quote_price side) rows) p → (stands (λ r. quoted_on side r && limited_at p r.limit) rows ≡ true) × (1 ≤ p)
+one-stands side [] p sound h = absurd h
+one-stands side (r ∷ rs) p sound h =
+    let test : Row → Bool = λ s. quoted_on side s && limited_at p s.limit in
+    elim (one-row side r (filter_map (quote_price side) rs) p (quote_price side r) refl h) [
+      | inl later ↦ let k = one-stands side rs p sound.1 later in (stands-later test r rs k.0, k.1)
+      | inr here ↦
+          let x = quoted-price side r sound.0 here.0 in
+          (stands_here test r rs (and_from (quoted_on side r) (limited_at p r.limit) here.0 (ap (limited_at p) here.1 ∙ eq-eqb p p refl)), omega (arith, same_Some x.0 p (ap price_of (sym x.1 ∙ here.1)), x.2))
+    ]
+
+-- what holds of each price of the rows holds of each quote's side
+
+priced-row : (side : Side) (P : ℕ → Type 0) (r : Row) (ps : List ℕ) (o : Option ℕ) → quote_price side r ≡ o → AllByRecursion P (cons_option o ps) → AllByRecursion P ps × ((x : ℕ) → quote_price side r ≡ Some x → P x)
+priced-row side P r ps None e h = (h, λ x k. absurd (none-some x (sym e ∙ k)))
+priced-row side P r ps (Some y) e h = (h.1, λ x k. subst P (same_Some y x (sym e ∙ k)) h.0)
+
+each-quoted : (side : Side) (P : ℕ → Type 0) (Q : Row → Type 0) (rows : List Row) → AllByRecursion (λ r. sound_row r ≡ true) rows → AllByRecursion P (filter_map (quote_price side) rows) → ((r : Row) (x : ℕ) → r.limit ≡ At x → P x → Q r) → AllByRecursion (λ r. quoted_on side r ≡ true → Q r) rows
+each-quoted side P Q [] sound h f = tt
+each-quoted side P Q (r ∷ rs) sound h f =
+    let k = priced-row side P r (filter_map (quote_price side) rs) (quote_price side r) refl h in (
+      λ q. let x = quoted-price side r sound.0 q in f r x.0 x.1 (k.1 x.0 (cond-true (quoted_on side r) (price_of r.limit) None q ∙ ap price_of x.1)),
+      each-quoted side P Q rs sound.1 k.0 f,
+    )
+
+good-through : (side : Side) (p x : ℕ) → AsGood side p x → through_price side p (At x) ≡ false
+good-through Buy p x h = le-ltb p x h
+good-through Sell p x h = le-ltb x p h
+
+tells : (side : Side) (rows : List Row) → AllByRecursion (λ r. sound_row r ≡ true) rows → (ps : List ℕ) → filter_map (quote_price side) rows ≡ ps → BestQuote side rows (reduce (better side) ps)
+tells side rows sound [] e =
+    stands-none (quoted_on side) rows (All-weaker (λ r. quoted_on side r ≡ true → ⊥) (λ r. quoted_on side r ≡ false) (λ r no. elim (cases_Bool (quoted_on side r)) [ inl t ↦ absurd (no t) | inr f ↦ f ]) rows
+    (each-quoted side (λ _. ⊥) (λ _. ⊥) rows sound (subst (AllByRecursion (λ _. ⊥)) (sym e) tt) (λ r x k no. no)))
+tells side rows sound (p ∷ ps) e =
+    let best = fold (better side) p ps in
+    let one = one-stands side rows best sound (subst (λ xs. IsOneOf xs best) (sym e) (best-one side p ps)) in
+    let each = each-quoted side (AsGood side best) (λ r. through_price side best r.limit ≡ false) rows sound (subst (AllByRecursion (AsGood side best)) (sym e) (best-good side p ps)) (λ r x k good. ap (through_price side best) k ∙ good-through side best x good) in
+    record {
+      bound = stands-none (λ r. quoted_on side r && through_price side best r.limit) rows (All-weaker (λ r. quoted_on side r ≡ true → through_price side best r.limit ≡ false) (λ r. (quoted_on side r && through_price side best r.limit) ≡ false) (λ r k. elim (cases_Bool (quoted_on side r)) [
+        | inl t ↦ ap (λ (b : Bool). b && through_price side best r.limit) t ∙ k t
+        | inr f ↦ and_left (quoted_on side r) (through_price side best r.limit) f
+      ]) rows each);
+      attained = one.0;
+      priced = one.1;
+    }
 
 pub best-tells : (side : Side) (rows : List Row) → sound_table rows ≡ true → BestQuote side rows (best_quote side rows)
-best-tells side rows h =
-    let p = best_quote side rows in
-    let each = best-row side p rows (sound-opened rows h).each (all-best side rows) in
-    record {
-      bound = stands-none (λ r. quoted_on side r && through_price side p r.limit) rows (All-weaker (λ r. quoted_on side r ≡ true → (1 ≤ p) × (through_price side p r.limit ≡ false)) (λ r. (quoted_on side r && through_price side p r.limit) ≡ false) (λ r k. elim (cases_Bool (quoted_on side r)) [
-        | inl t ↦ ap (λ (b : Bool). b && through_price side p r.limit) t ∙ (k t).1
-        | inr f ↦ and_left (quoted_on side r) (through_price side p r.limit) f
-      ]) rows each);
-      attained = λ low. some-best side rows p low refl;
-      none = λ e. stands-none (quoted_on side) rows (All-weaker (λ r. quoted_on side r ≡ true → (1 ≤ p) × (through_price side p r.limit ≡ false)) (λ r. quoted_on side r ≡ false) (λ r k. elim (cases_Bool (quoted_on side r)) [
-        | inl t ↦ absurd (omega (arith, (k t).0))
-        | inr f ↦ f
-      ]) rows each);
-    }
+best-tells side rows h = tells side rows (sound-opened rows h).each (filter_map (quote_price side) rows) refl

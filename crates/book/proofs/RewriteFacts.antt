@@ -1,8 +1,8 @@
 -- A row changed in its place: the table stays sound where the row stays the same interest.
-use Rattle.std.proofs.Common.{◌≡◌, ℕ, zero, suc, ◌+◌, ◌<◌, ◌≤◌, Bool, true, cond, not, ◌&&◌, ◌||◌, eqb, leb, List, [], ◌∷◌, ◌++◌, map, length, get_or, take, drop, set, sym, refl, ap, ◌∙◌, arith}
-use Rattle.std.proofs.lemmas.Bool.{and_parts, leb-true, eqb-true}
+use Rattle.std.proofs.Common.{◌≡◌, ℕ, zero, suc, ◌+◌, ◌<◌, ◌≤◌, Bool, true, false, cond, not, ◌&&◌, ◌||◌, eqb, leb, List, [], ◌∷◌, ◌++◌, map, length, min, get_or, take, drop, set, sym, refl, ap, ◌∙◌, arith}
+use Rattle.std.proofs.lemmas.Bool.{and_parts, leb-true, eqb-true, false≢true}
 use Rattle.std.proofs.lemmas.List.Sums.{sum_by-cons}
-use Rattle.std.proofs.lemmas.List.{get_or-take, length-take, take_more, take_more_set, drop-set-lt, append_assoc, append-nil, take_all, drop_all, at_drop_more}
+use Rattle.std.proofs.lemmas.List.{take_more, take_more_set, drop-set-lt, append_assoc, append-nil, take_all, drop_all, at_drop_more}
 use Rattle.interest.specs.declared.Limit.{Limit}
 use Rattle.interest.specs.Bounds.{sized}
 use Rattle.book.specs.declared.row.Owner.{Owner}
@@ -11,7 +11,8 @@ use Rattle.book.specs.declared.row.Row.{Row}
 use Rattle.book.specs.declared.book.Book.{Book}
 use Rattle.book.specs.Rows.{held, bounded_limit, sound_row, every, place, following, in_row_order, is_order, owned_by_order, is_quote_of, new_number, distinct_numbers, below_limit, below_offer, bids_below_offers, order_owned, order_count, sound_table}
 use Rattle.book.specs.Books.{rows_of}
-use Rattle.book.specs.Rewrites.{changed_at, trade_row, route_row, cancel_row, rest_row, SameRow, SameRows}
+use Rattle.book.proofs.SoundFacts.{sound-few}
+use Rattle.book.specs.Rewrites.{changed_at, less_left, trade_row, route_row, cancel_row, rest_row, SameRow, SameRows}
 
 -- what a sound row holds
 pub row-sound : (r : Row) → sound_row r ≡ true → (held r ≡ r.size) × (1 ≤ r.size) × (r.size ≤ 1000000) × (bounded_limit r.limit ≡ true)
@@ -47,6 +48,20 @@ same-cancel r = record { owner = refl; side = refl; limit = refl; class = refl; 
 
 pub same_rest : (w s : ℕ) (r : Row) → SameRow r (rest_row w s r)
 same_rest w s r = record { owner = refl; side = refl; limit = refl; class = refl; size = refl; held = refl }
+
+-- contracts taken from those left, and counted as traded or routed
+abbrev more_traded : ℕ → Row → Row
+more_traded n r = record { owner = r.owner; side = r.side; limit = r.limit; class = r.class; size = r.size; traded = r.traded + n; routed = r.routed; cancelled = r.cancelled; left = r.left; working = r.working; shown = r.shown }
+
+abbrev more_routed : ℕ → Row → Row
+more_routed n r = record { owner = r.owner; side = r.side; limit = r.limit; class = r.class; size = r.size; traded = r.traded; routed = r.routed + n; cancelled = r.cancelled; left = r.left; working = r.working; shown = r.shown }
+
+module _ (n taken : ℕ) (row rest : Row) (e : taken ≡ min n row.left) (less : rest ≡ less_left n row) where
+  pub traded-is : more_traded taken rest ≡ trade_row n row
+  traded-is = ap (more_traded taken) less ∙ ap (λ (t : ℕ). more_traded t (less_left n row)) e
+
+  pub routed-is : more_routed taken rest ≡ route_row n row
+  routed-is = ap (more_routed taken) less ∙ ap (λ (t : ℕ). more_routed t (less_left n row)) e
 
 pub rows_same : (rows : List Row) → SameRows rows rows
 rows_same [] = tt
@@ -126,22 +141,19 @@ changed-past at f [] le = refl
 changed-past zero f (r ∷ rows) le = absurd (omega arith)
 changed-past (suc at) f (r ∷ rows) le = ap (λ (xs : List Row). r ∷ xs) (changed-past at f rows (omega arith))
 
-pub written : (n at : ℕ) (f : Row → Row) (rows : List Row) (d v : Row) → at < n → at < length rows → v ≡ f (get_or rows at d) → take n (set rows at v) ≡ changed_at at f (take n rows)
-written n at f [] d v lt l e = absurd (omega arith)
-written zero at f (r ∷ rows) d v lt l e = absurd (omega arith)
-written (suc n) zero f (r ∷ rows) d v lt l e = ap (λ (x : Row). x ∷ take n rows) e
-written (suc n) (suc at) f (r ∷ rows) d v lt l e = ap (λ (xs : List Row). r ∷ xs) (written n at f rows d v (omega arith) (omega arith) e)
+-- a row written where it stands
+module _ (at : ℕ) (f : Row → Row) (rows : List Row) (row v : Row) (lt : at < length rows) (stood : row ≡ get_or rows at row) (is : v ≡ f row) where
+  pub written : set rows at v ≡ changed_at at f rows
+  written = ap (set rows at) (is ∙ ap f stood) ∙ sym (changed-is at f rows row lt)
 
-pub written-sound : (n at : ℕ) (f : Row → Row) (rows : List Row) (d v : Row) → at < n → at < length rows → v ≡ f (get_or rows at d) → ((r : Row) → SameRow r (f r)) → sound_table (take n rows) ≡ true → sound_table (take n (set rows at v)) ≡ true
-written-sound n at f rows d v lt l e keeps h =
-    ap sound_table (written n at f rows d v lt l e) ∙ table_same (take n rows) (changed_at at f (take n rows)) (changed-same at f (take n rows) keeps) ∙ h
+  pub written-sound : ((r : Row) → SameRow r (f r)) → sound_table rows ≡ true → sound_table (set rows at v) ≡ true
+  written-sound keeps h = ap sound_table written ∙ table_same rows (changed_at at f rows) (changed-same at f rows keeps) ∙ h
 
--- a row that stands, read from the table
-pub standing-sound : (n at : ℕ) (rows : List Row) (d : Row) → at < n → n ≤ length rows → sound_table (take n rows) ≡ true → sound_row (get_or rows at d) ≡ true
-standing-sound n at rows d lt le h = ap sound_row (sym (get_or-take n rows at d lt)) ∙ sound-at (take n rows) at d h (omega (arith, length-take n rows))
-
-pub past-standing : (n at : ℕ) (f : Row → Row) (rows : List Row) → n ≤ at → take n rows ≡ changed_at at f (take n rows)
-past-standing n at f rows le = sym (changed-past at f (take n rows) (omega (arith, length-take n rows)))
+-- no row stands there
+pub past-standing : (at : ℕ) (f : Row → Row) (rows : List Row) → (at < length rows → false ≡ true) → rows ≡ changed_at at f rows
+past-standing at f rows none =
+    let no : at < length rows → ⊥ = λ lt. false≢true (none lt) in
+    sym (changed-past at f rows (omega arith))
 
 -- one row changed in its place: the rows before it, and what is left of the rows after it
 pub changed-length : (at : ℕ) (f : Row → Row) (rows : List Row) → length (changed_at at f rows) ≡ length rows
@@ -175,11 +187,6 @@ pub passed-step : (G : List Row → List Row) (at : ℕ) (rows : List Row) (d : 
 passed-step G at rows d lt =
     ap (λ (xs : List Row). xs ++ G (drop (at + 1) rows)) (take_more rows at d lt) ∙ append_assoc (take at rows) (get_or rows at d ∷ []) (G (drop (at + 1) rows))
 
--- the end of a pass
-pub pass-end : (G : List Row → List Row) (at : ℕ) (rows : List Row) → G [] ≡ [] → length rows ≤ at → take at rows ++ G (drop at rows) ≡ rows
-pass-end G at rows none le =
-    ap (λ (xs : List Row). xs ++ G (drop at rows)) (take_all at rows le) ∙ ap (λ (xs : List Row). rows ++ G xs) (drop_all at rows le) ∙ ap (λ (xs : List Row). rows ++ xs) none ∙ append-nil rows
-
 -- a pass that changes each row by itself
 pub map-step : (f change : Row → Row) (at : ℕ) (rows : List Row) (d : Row) → at < length rows → change (get_or rows at d) ≡ f (get_or rows at d)
     → take (at + 1) (changed_at at change rows) ++ map f (drop (at + 1) (changed_at at change rows)) ≡ take at rows ++ map f (drop at rows)
@@ -197,4 +204,4 @@ map-passed f at rows d lt e =
 
 -- a book has at most 128 rows
 pub rows_few : (b : Book) → length (rows_of b) ≤ 128
-rows_few b = omega (arith, length-take b.count b.rows, b.fits)
+rows_few b = sound-few (rows_of b) b.sound

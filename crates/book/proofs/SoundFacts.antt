@@ -1,8 +1,9 @@
 -- What the invariant of a table says, row by row and pair by pair, and the edits that keep it.
-use Rattle.std.proofs.Common.{◌≡◌, ℕ, zero, suc, ◌+◌, ◌<◌, ◌≤◌, Bool, true, false, cond, not, ◌||◌, eqb, leb, List, [], ◌∷◌, ◌++◌, length, take, drop, sum_by, count_by, filter, sym, refl, ap, ◌∙◌, subst, inl, inr, arith}
+use Rattle.std.proofs.Common.{◌≡◌, ℕ, zero, suc, ◌+◌, ◌<◌, ◌≤◌, Bool, true, false, cond, not, ◌||◌, eqb, leb, List, [], ◌∷◌, ◌++◌, length, get_or, take, drop, sum_by, count_by, filter, sym, refl, ap, ◌∙◌, subst, inl, inr, arith}
 use Rattle.std.specs.List.{insert, AllByRecursion}
+use Rattle.std.specs.List.Sorted.{IsPartitionedBy, IsPartitionPoint}
 use Rattle.std.proofs.lemmas.Bool.{and_parts, and_from, cond_both, cond-true, cond-false, leb-true, le-leb, both_ways, cases_Bool, not-true, not_from_false, true≢false, lt-leb}
-use Rattle.std.proofs.lemmas.List.{take_at, drop_at, length-append, length-take-le}
+use Rattle.std.proofs.lemmas.List.{take_at, drop_at, length-append}
 use Rattle.std.proofs.ByRecursion.{All-append, All-weaker, all_kept_by}
 use Rattle.std.proofs.lemmas.List.Sums.{sum_by-cons, sum_by-append, length-filter, count_by-le-length}
 use Rattle.std.proofs.lemmas.List.Filters.{sum_by-filter_both, length-filter_both}
@@ -86,6 +87,28 @@ split-kept R test down (r ∷ rs) p =
           let rest : AllByRecursion (λ s. others test s ≡ true) rs = All-weaker (λ s. test s ≡ false) (λ s. others test s ≡ true) (λ s f. not_from_false (test s) f) rs none in
           ap parts e ∙ ap (λ (ys : List Row). ys ++ r ∷ filter (others test) rs) (kept-none test rs none) ∙ ap (λ (ys : List Row). r ∷ ys) (kept-all (others test) rs rest)
     ]
+
+-- there the rows that pass stand in front, and how many there are is where the others begin
+all-at : (P : Row → Type 0) (rows : List Row) (j : ℕ) (d : Row) → AllByRecursion P rows → j < length rows → P (get_or rows j d)
+all-at P [] j d h lt = absurd (omega arith)
+all-at P (r ∷ rs) zero d h lt = h.0
+all-at P (r ∷ rs) (suc j) d h lt = all-at P rs j d h.1 (omega arith)
+
+partitioned : (R : Row → Row → Type 0) (test : Row → Bool) → ((r s : Row) → R r s → test s ≡ true → test r ≡ true) → (rows : List Row) → Pairs R rows → IsPartitionedBy test rows
+partitioned R test down [] p i j d le lt h = absurd (omega arith)
+partitioned R test down (r ∷ rs) p zero zero d le lt h = h
+partitioned R test down (r ∷ rs) p zero (suc j) d le lt h = down r (get_or rs j d) (all-at (R r) rs j d p.0 (omega arith)) h
+partitioned R test down (r ∷ rs) p (suc i) zero d le lt h = absurd (omega arith)
+partitioned R test down (r ∷ rs) p (suc i) (suc j) d le lt h = partitioned R test down rs p.1 i j d (omega arith) (omega arith) h
+
+parted-count : (test : Row → Bool) (rows : List Row) (i : ℕ) → i ≤ length rows → IsPartitionPoint (λ r. test r ≡ true) (λ r. test r ≡ false) rows i → i ≡ count_by test rows
+parted-count test [] i le h = omega arith
+parted-count test (r ∷ rs) zero le h =
+    let rest = parted-count test rs 0 (omega arith) ((λ k d low high. absurd (omega arith)), (λ k d low high. h.1 (suc k) d (omega arith) (omega arith))) in
+    omega (arith, sum_by-cons (λ (x : Row). cond (test x) 1 0) r rs, cond-false {A = ℕ} (test r) 1 0 (h.1 0 r (omega arith) (omega arith)), rest)
+parted-count test (r ∷ rs) (suc i) le h =
+    let rest = parted-count test rs i (omega arith) ((λ k d low high. h.0 (suc k) d (omega arith) (omega arith)), (λ k d low high. h.1 (suc k) d (omega arith) (omega arith))) in
+    omega (arith, sum_by-cons (λ (x : Row). cond (test x) 1 0) r rs, cond-true {A = ℕ} (test r) 1 0 (h.0 0 r (omega arith) (omega arith)), rest)
 
 -- what two rows of a table are to one another
 
@@ -274,6 +297,13 @@ up_to-down row r s f e = le-leb (place r) (place row) (omega (arith, f.order, fo
 pub split-place : (row : Row) (rows : List Row) → sound_table rows ≡ true → filter (up_to row) rows ++ filter (others (up_to row)) rows ≡ rows
 split-place row rows h = split-kept Fits (up_to row) (up_to-down row) rows (sound-opened rows h).pairs
 
+-- of the rows as they are listed
+pub place-counted : (row : Row) (rows listed : List Row) → listed ≡ rows → sound_table rows ≡ true → (i : ℕ) → i ≤ length listed
+    → (IsPartitionedBy (up_to row) listed → IsPartitionPoint (λ r. up_to row r ≡ true) (λ r. up_to row r ≡ false) listed i) → i ≡ count_by (up_to row) rows
+place-counted row rows listed same h i le point =
+    let parted : IsPartitionedBy (up_to row) rows = partitioned Fits (up_to row) (up_to-down row) rows (sound-opened rows h).pairs in
+    parted-count (up_to row) listed i le (point (subst (IsPartitionedBy (up_to row)) (sym same) parted)) ∙ ap (count_by (up_to row)) same
+
 pub inserted-placed : (row : Row) (rows : List Row) → sound_table rows ≡ true → insert rows (count_by (up_to row) rows) row ≡ placed row rows
 inserted-placed row rows h =
     let n = count_by (up_to row) rows in
@@ -308,18 +338,13 @@ sound-placed row rows h good room beside =
       few = few;
     })
 
--- a row put into the array
+-- a row put into a table: there is room, and its place among the rows is how many are up to it
+module _ (row : Row) (rows : List Row) (h : sound_table rows ≡ true) (at : ℕ) (is : at ≡ count_by (up_to row) rows) where
+  pub insert-inside : at ≤ length rows
+  insert-inside = omega (arith, count_by-le-length (up_to row) rows)
 
-module _ (rows : List Row) (count at p : ℕ) (row : Row) (long : length rows ≡ 128) (fits : count ≤ 128) (h : sound_table (take count rows) ≡ true) (then : sound_table (placed row (take count rows)) ≡ true) where
-  pub insert-room : count < length rows
-  insert-room = omega (arith, sound-few (placed row (take count rows)) then, length-placed row (take count rows), length-take-le count rows (omega arith))
+  pub insert-room : sound_table (placed row rows) ≡ true → length rows < 128
+  insert-room then = omega (arith, sound-few (placed row rows) then, length-placed row rows)
 
-  module _ (e : p ≡ place row) (listed : List Row) (same : listed ≡ take count rows) (k : at ≡ count_by (λ (x : Row). leb (place x) p) listed) where
-    insert-at-is : at ≡ count_by (up_to row) (take count rows)
-    insert-at-is = k ∙ ap (count_by (λ (x : Row). leb (place x) p)) same ∙ ap (λ (n : ℕ). count_by (λ (x : Row). leb (place x) n) (take count rows)) e
-
-    pub insert-inside : at ≤ count
-    insert-inside = omega (arith, insert-at-is, count_by-le-length (up_to row) (take count rows), length-take-le count rows (omega arith))
-
-    pub insert-done : (new : List Row) → take (count + 1) new ≡ insert (take count rows) at row → take (count + 1) new ≡ placed row (take count rows)
-    insert-done new done = done ∙ ap (λ (n : ℕ). insert (take count rows) n row) insert-at-is ∙ inserted-placed row (take count rows) h
+  pub insert-done : insert rows at row ≡ placed row rows
+  insert-done = ap (λ (n : ℕ). insert rows n row) is ∙ inserted-placed row rows h

@@ -1,6 +1,5 @@
 -- Sums over the rows: a bound, a row more, and how they move with the price.
-use Rattle.std.proofs.Common.{◌≡◌, ℕ, ◌+◌, ◌<◌, ◌≤◌, Bool, true, false, cond, ◌&&◌, eqb, leb, List, [], ◌∷◌, length, get_or, take, sym, refl, arith, length-take}
-use Rattle.std.specs.List.{AllByRecursion}
+use Rattle.std.proofs.Common.{◌≡◌, ℕ, ◌+◌, ◌<◌, ◌≤◌, Bool, true, false, cond, ◌&&◌, eqb, leb, List, [], ◌∷◌, length, get_or, take, sym, refl, ap, ◌∙◌, arith}
 use Rattle.std.proofs.lemmas.List.Sums.{sum_by_more, sum_by-take-le, sum_by-cons}
 use Rattle.std.proofs.ByRecursion.{sum_by_le, All-weaker}
 use Rattle.std.proofs.lemmas.Bool.{leb-true, eqb-true, le-leb, lt-ltb, and_parts, and_from}
@@ -16,10 +15,7 @@ use Rattle.book.specs.Rows.{every, sound_row, held}
 use Rattle.book.specs.Ranks.{contracts, of_side, can_route, routable_class, takes_price, through_price, interest_at, routable_at, interest_through, routable_through}
 use Rattle.book.specs.Books.{rows_of}
 use Rattle.book.specs.Sums.{limited_at}
-
-pub every-all : (test : Row → Bool) (rows : List Row) → every test rows ≡ true → AllByRecursion (λ r. test r ≡ true) rows
-every-all test [] e = tt
-every-all test (r ∷ rs) e = let x = and_parts (test r) (every test rs) e in (x.0, every-all test rs x.1)
+use Rattle.book.proofs.SoundFacts.{every-all, sound-few}
 
 -- a row has at most a million contracts left
 pub left-small : (r : Row) → sound_row r ≡ true → r.left ≤ 1000000
@@ -28,7 +24,7 @@ left-small r e =
     let sum = and_parts (eqb (held r) r.size) _ size.1 in
     omega (arith, leb-true r.size 1000000 (and_parts (leb 1 r.size) _ size.0).1, eqb-true (held r) r.size sum.0)
 
-size-le : (b : Bool) (n m : ℕ) → n ≤ m → cond b n 0 ≤ m
+pub size-le : (b : Bool) (n m : ℕ) → n ≤ m → cond b n 0 ≤ m
 size-le true n m h = h
 size-le false n m h = omega arith
 
@@ -152,4 +148,12 @@ pub book-sound : (b : Book) → every sound_row (rows_of b) ≡ true
 book-sound b = (and_parts (every sound_row (rows_of b)) _ b.sound).0
 
 pub book-fits : (b : Book) → length (rows_of b) ≤ 128
-book-fits b = omega (arith, length-take b.count b.rows, b.fits, b.long)
+book-fits b = sound-few (rows_of b) b.sound
+
+-- the same of the rows that it lists
+module _ (b : Book) (rows : List Row) (listed : rows ≡ rows_of b) where
+  pub listed-sound : every sound_row rows ≡ true
+  listed-sound = ap (every sound_row) listed ∙ book-sound b
+
+  pub listed-fits : length rows ≤ 128
+  listed-fits = omega (arith, ap (λ (xs : List Row). length xs) listed, book-fits b)

@@ -3,7 +3,7 @@ use Rattle.std.specs.Prelude.{ℕ, Bool, true, false, cond, not, ◌&&◌, ◌||
 use Rattle.interest.specs.declared.Side.{Side}
 use Rattle.interest.specs.declared.Side.TheVariants.{Buy, Sell}
 use Rattle.interest.specs.declared.Class.TheVariants.{Other}
-use Rattle.interest.specs.declared.Limit.TheVariants.{At}
+use Rattle.interest.specs.declared.Limit.TheVariants.{Market, At}
 use Rattle.interest.specs.declared.Refusal.{Refusal}
 use Rattle.interest.specs.declared.Refusal.TheVariants.{NumberOutOfBounds, SizeOutOfBounds, PriceNotPermitted, NumberStanding, NothingStanding, BookFull, BidNotBelowOffer}
 use Rattle.interest.specs.Bounds.{priced, sized, maker_numbered}
@@ -33,6 +33,22 @@ before_maker m r = owned_before m r.owner
 
 abbrev pub after_maker : ℕ → Row → Bool
 after_maker m r = owned_after m r.owner
+
+-- a row with no contracts
+abbrev pub blank_row : Row
+blank_row = record {
+  owner = owner.Order 0;
+  side = Buy;
+  limit = Market;
+  class = Other;
+  size = 0;
+  traded = 0;
+  routed = 0;
+  cancelled = 0;
+  left = 0;
+  working = 0;
+  shown = 0;
+}
 
 -- a row as it is accepted: every contract left, and no price yet
 abbrev pub order_row : Order → Row

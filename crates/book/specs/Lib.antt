@@ -6,3 +6,4 @@ pub mod Reads
 pub mod Edits
 pub mod Effects
 pub mod Rewrites
+pub mod Texts

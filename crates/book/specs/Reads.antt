@@ -1,5 +1,6 @@
 -- What a table answers when it is asked.
-use Rattle.std.specs.Prelude.{◌≡◌, ℕ, zero, suc, ◌+◌, ◌≤◌, min, max, Bool, true, false, cond, not, ◌&&◌, List, [], ◌∷◌, is_some, Some, None, Option, ◌==◌}
+use Rattle.std.specs.Prelude.{◌≡◌, ℕ, zero, suc, ◌+◌, ◌≤◌, min, max, Bool, true, false, cond, not, ◌&&◌, List, is_some, Some, None, Option, ◌==◌}
+use Rattle.std.specs.List.{find, filter_map, reduce}
 use Rattle.std.specs.Option.{option_map}
 use Rattle.interest.specs.declared.Side.{Side}
 use Rattle.interest.specs.declared.Side.TheVariants.{Buy, Sell}
@@ -8,8 +9,6 @@ use Rattle.interest.specs.declared.Limit.TheVariants.{Market, At}
 use Rattle.book.specs.declared.row.Row.{Row}
 use Rattle.book.specs.declared.row.Reading.{Reading}
 use Rattle.book.specs.declared.row.Totals.{Totals}
-use Rattle.book.specs.declared.scan.Sought.{Sought}
-use Rattle.book.specs.declared.scan.Sought.TheVariants as sought
 use Rattle.book.specs.Rows.{is_order, is_quote_of, order_owned}
 use Rattle.book.specs.Ranks.{of_side, total_of, through_price}
 
@@ -17,15 +16,9 @@ use Rattle.book.specs.Ranks.{of_side, total_of, through_price}
 abbrev pub is_quote_side : ℕ → Side → Row → Bool
 is_quote_side m side r = is_quote_of m r && of_side side r
 
-abbrev pub seeks : Sought → Row → Bool
-seeks (sought.Order n) r = is_order n r
-seeks (sought.Quote m) r = is_quote_of m r
-seeks (sought.QuoteSide m side) r = is_quote_side m side r
-
 -- the first row that passes a test
 abbrev pub first : (Row → Bool) → List Row → Option Row
-first test [] = None
-first test (r ∷ rs) = cond (test r) (Some r) (first test rs)
+first test rows = find test rows
 
 abbrev pub stands : (Row → Bool) → List Row → Bool
 stands test rows = is_some (first test rows)
@@ -70,25 +63,36 @@ plus_row t r = record {
   left = t.left + r.left;
 }
 
--- a quote's side, by its price; no price is 0
 abbrev pub quoted_on : Side → Row → Bool
 quoted_on side r = not (order_owned r.owner) && of_side side r
 
-abbrev pub price_of : Limit → ℕ
-price_of Market = 0
-price_of (At x) = x
+abbrev pub price_of : Limit → Option ℕ
+price_of Market = None
+price_of (At x) = Some x
+
+-- the price of a row that is a quote's side
+abbrev pub quote_price : Side → Row → Option ℕ
+quote_price side r = cond (quoted_on side r) (price_of r.limit) None
 
 abbrev pub better : Side → ℕ → ℕ → ℕ
 better Buy p q = max p q
-better Sell p q = cond (p == 0) q (cond (q == 0) p (min p q))
+better Sell p q = min p q
 
--- the highest bid or lowest offer of the quotes, 0 where there is none
-abbrev pub best_quote : Side → List Row → ℕ
-best_quote side [] = 0
-best_quote side (r ∷ rs) = better side (cond (quoted_on side r) (price_of r.limit) 0) (best_quote side rs)
+-- the highest bid or lowest offer of the quotes, where there is one
+abbrev pub best_quote : Side → List Row → Option ℕ
+best_quote side rows = reduce (better side) (filter_map (quote_price side) rows)
 
--- what the best price of the quotes of a side is: no such quote is better, and if it is a price one is at it
-pub record BestQuote (side : Side) (rows : List Row) (p : ℕ) : Type 0 where
+abbrev pub limited_at : ℕ → Limit → Bool
+limited_at p Market = false
+limited_at p (At x) = x == p
+
+-- what the best price of the quotes of a side is: no such quote is better, and one is at it
+pub record BestPrice (side : Side) (rows : List Row) (p : ℕ) : Type 0 where
   pub bound : stands (λ r. quoted_on side r && through_price side p r.limit) rows ≡ false
-  pub attained : 1 ≤ p → stands (λ r. quoted_on side r && price_of r.limit == p) rows ≡ true
-  pub none : p ≡ 0 → stands (quoted_on side) rows ≡ false
+  pub attained : stands (λ r. quoted_on side r && limited_at p r.limit) rows ≡ true
+  pub priced : 1 ≤ p
+
+-- where no price is answered, no such quote stands
+abbrev pub BestQuote : Side → List Row → Option ℕ → Type 0
+BestQuote side rows None = stands (quoted_on side) rows ≡ false
+BestQuote side rows (Some p) = BestPrice side rows p

@@ -9,6 +9,10 @@ changed_at at f [] = []
 changed_at zero f (r ∷ rows) = f r ∷ rows
 changed_at (suc at) f (r ∷ rows) = r ∷ changed_at at f rows
 
+-- up to n of the contracts left taken from it
+abbrev pub less_left : ℕ → Row → Row
+less_left n r = record { owner = r.owner; side = r.side; limit = r.limit; class = r.class; size = r.size; traded = r.traded; routed = r.routed; cancelled = r.cancelled; left = r.left - n; working = r.working; shown = r.shown }
+
 -- up to n of the contracts left traded, or routed
 abbrev pub trade_row : ℕ → Row → Row
 trade_row n r = record { owner = r.owner; side = r.side; limit = r.limit; class = r.class; size = r.size; traded = r.traded + min n r.left; routed = r.routed; cancelled = r.cancelled; left = r.left - n; working = r.working; shown = r.shown }

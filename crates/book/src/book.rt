@@ -1,15 +1,19 @@
 //! The table itself.
-ghost use Rattle.std.specs.Prelude.{◌≡◌, ◌≤◌, true, length, take};
+ghost use Rattle.std.specs.Prelude.{◌≡◌, true};
 ghost use Rattle.book.specs.Rows.{sound_table};
 
 use crate::row::Row;
+use arrayvec::ArrayVec;
 
-/// At most 96 orders, as accepted, then the sides of the quotes of makers 1 to 16. Only the first `count` rows stand.
+/// How many orders may stand together.
+pub const ORDERS: usize = 96;
+
+/// 96 orders, and a bid and an offer of each of 16 makers.
+const ROWS: usize = 128;
+
+/// At most 96 orders, as accepted, then the sides of the quotes of makers 1 to 16.
 #[derive(Drop)]
 pub struct Book {
-    pub(crate) rows: [Row; 128],
-    pub(crate) count: usize,
-    ghost long: { length rows ≡ 128 },
-    ghost fits: { count ≤ 128 },
-    ghost sound: { sound_table (take count rows) ≡ true },
+    pub(crate) rows: ArrayVec<Row, ROWS>,
+    ghost sound: { sound_table rows.items ≡ true },
 }

@@ -2,12 +2,9 @@
 #![tactic(auto)]
 
 pub mod book;
+mod checks;
 pub mod reads;
 pub mod rewrite;
 pub mod row;
-mod scan;
-mod shift;
 pub mod sums;
 pub mod table;
-
-pub use scan::better_of;

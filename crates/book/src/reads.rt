@@ -3,25 +3,19 @@ ghost use Rattle.std.specs.Prelude.{◌≡◌, ◌+◌};
 ghost use Rattle.interest.specs.declared.Side.TheVariants.{Buy, Sell};
 ghost use Rattle.book.specs.Rows.{is_order, is_quote_of, order_count};
 ghost use Rattle.book.specs.Books.{rows_of};
-ghost use Rattle.book.specs.Reads.{stands, reading_of, read_order, read_quote, quoting, totals_of, best_quote, BestQuote};
+ghost use Rattle.book.specs.Reads.{is_quote_side, first, stands, read_order, read_quote, quoting, totals_of, better, best_quote, BestQuote};
 
 use crate::book::Book;
 use crate::row::{Reading, Row, Totals};
-use crate::scan::{Sought, best_quote, rows_up_to, side_totals};
 use interest::{MAKERS, Side};
 
-/// What is told of a row.
-fn reading(row: Row) -> Reading
-    ensures { result ≡ reading_of row }
+/// The better of two prices of a side.
+fn better(side: Side, p: u32, q: u32) -> u32
+    ensures { result ≡ better side p q }
 {
-    let rests = row.left > 0;
-    Reading {
-        traded: row.traded,
-        routed: row.routed,
-        cancelled: row.cancelled,
-        left: row.left,
-        working: if rests { row.working } else { 0 },
-        shown: if rests { row.shown } else { 0 },
+    match side {
+        Side::Buy => p.max(q),
+        Side::Sell => p.min(q),
     }
 }
 
@@ -30,70 +24,89 @@ impl Book {
     pub fn orders(&self) -> usize
         ensures { result ≡ order_count (rows_of self.now) }
     {
-        rows_up_to(self.rows(), 0)
+        self.rows().iter().filter(|row| row.is_any_order()).count()
+    }
+
+    /// The order of that number, if it stands.
+    pub(crate) fn order(&self, number: u32) -> Option<Row>
+        ensures { result ≡ first (is_order number) (rows_of self.now) }
+    {
+        self.rows().iter().copied().find(|row| row.is_order(number))
+    }
+
+    /// One side of a maker's quote, if it stands.
+    pub(crate) fn quote_side(&self, maker: u32, side: Side) -> Option<Row>
+        ensures { result ≡ first (is_quote_side maker side) (rows_of self.now) }
+    {
+        self.rows()
+            .iter()
+            .copied()
+            .find(|row| row.is_quote_side(maker, side))
     }
 
     /// Whether the order of that number stands.
     pub fn has_order(&self, number: u32) -> bool
         ensures { result ≡ stands (is_order number) (rows_of self.now) }
     {
-        self.find(Sought::Order(number)).is_some()
+        self.rows().iter().any(|row| row.is_order(number))
     }
 
     /// Whether a maker quotes; a quote with no bid counts.
     pub fn has_quote(&self, maker: u32) -> bool
         ensures { result ≡ stands (is_quote_of maker) (rows_of self.now) }
     {
-        self.find(Sought::Quote(maker)).is_some()
+        self.rows().iter().any(|row| row.is_quote_of(maker))
     }
 
     /// How many makers other than the Primary Market Maker quote.
     pub fn other_makers(&self) -> u32
         ensures { result ≡ quoting 2 15 (rows_of self.now) }
     {
-        let mut n = 0;
-        for maker in 2..MAKERS + 1 {
-            if self.has_quote(maker) {
-                n += 1;
-            }
-        }
-        n
+        // Not `2..=MAKERS`: no lemma of std lists the numbers of an inclusive range.
+        (2..MAKERS + 1)
+            .filter(|maker| self.has_quote(*maker))
+            .count() as u32
     }
 
-    /// The highest bid of the quotes, or 0.
-    pub fn highest_bid(&self) -> u32
+    /// The best price of the quotes of a side, where there is one.
+    fn best_quote(&self, side: Side) -> Option<u32>
+        ensures equation { result ≡ best_quote side (rows_of self.now) }
+        ensures best { BestQuote side (rows_of self.now) result }
+    {
+        self.rows()
+            .iter()
+            .filter_map(|row| row.quote_price(side))
+            .reduce(|best, price| better(side, best, price))
+    }
+
+    /// The highest bid of the quotes, where one bids.
+    pub fn highest_bid(&self) -> Option<u32>
         ensures equation { result ≡ best_quote Buy (rows_of self.now) }
         ensures best { BestQuote Buy (rows_of self.now) result }
     {
-        best_quote(self.rows(), Side::Buy)
+        self.best_quote(Side::Buy)
     }
 
-    /// The lowest offer of the quotes, or 0.
-    pub fn lowest_offer(&self) -> u32
+    /// The lowest offer of the quotes, where there is a quote.
+    pub fn lowest_offer(&self) -> Option<u32>
         ensures equation { result ≡ best_quote Sell (rows_of self.now) }
         ensures best { BestQuote Sell (rows_of self.now) result }
     {
-        best_quote(self.rows(), Side::Sell)
+        self.best_quote(Side::Sell)
     }
 
     /// What is told of an order that stands.
     pub fn read_order(&self, number: u32) -> Option<Reading>
         ensures { result ≡ read_order number (rows_of self.now) }
     {
-        match self.find(Sought::Order(number)) {
-            Some(row) => Some(reading(row)),
-            None => None,
-        }
+        self.order(number).map(Reading::from)
     }
 
     /// What is told of one side of a maker's quote.
     pub fn read_quote(&self, maker: u32, side: Side) -> Option<Reading>
         ensures { result ≡ read_quote maker side (rows_of self.now) }
     {
-        match self.find(Sought::QuoteSide(maker, side)) {
-            Some(row) => Some(reading(row)),
-            None => None,
-        }
+        self.quote_side(maker, side).map(Reading::from)
     }
 
     /// The contracts of one side, each in one of four places.
@@ -101,6 +114,22 @@ impl Book {
         ensures equation { result ≡ totals_of side (rows_of self.now) }
         ensures balance { result.accepted ≡ result.traded + result.routed + result.cancelled + result.left }
     {
-        side_totals(self.rows(), side)
+        let mut totals = Totals {
+            accepted: 0,
+            traded: 0,
+            routed: 0,
+            cancelled: 0,
+            left: 0,
+        };
+        for row in self.rows() {
+            if row.side == side {
+                totals.accepted += row.size;
+                totals.traded += row.traded;
+                totals.routed += row.routed;
+                totals.cancelled += row.cancelled;
+                totals.left += row.left;
+            }
+        }
+        totals
     }
 }

@@ -1,122 +1,16 @@
 //! What is done to a table.
-ghost use Rattle.std.specs.Prelude.{◌≡◌, true, false, not, [], is_ok, IfOk, if◌then◌else◌, None, filter, OnOk};
+ghost use Rattle.std.specs.Prelude.{◌≡◌, true, false, [], is_ok, IfOk, if◌then◌else◌, None, OnOk, count_by, nat_le};
 ghost use Rattle.std.specs.List.{AllByRecursion};
-ghost use Rattle.book.specs.Rows.{sound_table, bounded_limit, is_quote_of};
+ghost use Rattle.book.specs.Rows.{sound_table, place, is_quote_of};
 ghost use Rattle.book.specs.Books.{rows_of};
-ghost use Rattle.book.specs.Reads.{seeks, first};
-ghost use Rattle.book.specs.Edits.{placed, order_row, quote_row, added, without_order, without_quote, quoted, add_cause, quote_cause, quote_out_cause, answered, take_out_answer, left_in, left_of_quote, sized_quote, priced_quote};
+ghost use Rattle.book.specs.Edits.{placed, added, without_order, without_quote, quoted, add_cause, quote_cause, quote_out_cause, answered, take_out_answer, left_of_quote};
 ghost use Rattle.book.specs.Effects.{OrderAdded, OrderOut, QuoteSet, QuoteOut};
 
 use crate::book::Book;
-use crate::row::{Order, Owner, Quote, Row, TakenBack};
-use crate::scan::{Sought, find, place_of, rows_up_to};
-use crate::shift::{insert_at, take_from};
-use interest::{Class, Limit, Refusal, Side, is_maker, is_price, is_size};
-
-/// How many orders may stand together.
-const ORDERS: usize = 96;
-
-/// What fills the places of the array where no row stands.
-const EMPTY: Row = Row {
-    owner: Owner::Order(0),
-    side: Side::Buy,
-    limit: Limit::Market,
-    class: Class::Other,
-    size: 0,
-    traded: 0,
-    routed: 0,
-    cancelled: 0,
-    left: 0,
-    working: 0,
-    shown: 0,
-};
-
-/// The row of an order as it is accepted.
-fn order_row(order: Order) -> Row
-    ensures { result ≡ order_row order }
-{
-    Row {
-        owner: Owner::Order(order.number),
-        side: order.side,
-        limit: order.limit,
-        class: order.class,
-        size: order.size,
-        left: order.size,
-        ..EMPTY
-    }
-}
-
-/// The row of one side of a quote as it is accepted.
-fn quote_row(maker: u32, side: Side, price: u32, size: u32) -> Row
-    ensures { result ≡ quote_row maker side price size }
-{
-    Row {
-        owner: Owner::Quote(maker),
-        side,
-        limit: Limit::At(price),
-        size,
-        left: size,
-        ..EMPTY
-    }
-}
-
-/// Whether an order may have that limit.
-fn is_limit(limit: Limit) -> bool
-    ensures { result ≡ bounded_limit limit }
-{
-    match limit {
-        Limit::Market => true,
-        Limit::At(price) => is_price(price),
-    }
-}
-
-/// The first cause to refuse a quote.
-fn quote_cause(maker: u32, quote: Quote) -> Option<Refusal>
-    ensures { result ≡ quote_cause maker quote }
-{
-    if !is_maker(maker) {
-        return Some(Refusal::NumberOutOfBounds);
-    }
-    if !is_sized_quote(quote) {
-        return Some(Refusal::SizeOutOfBounds);
-    }
-    if !is_priced_quote(quote) {
-        return Some(Refusal::PriceNotPermitted);
-    }
-    if quote.offer <= quote.bid {
-        return Some(Refusal::BidNotBelowOffer);
-    }
-    None
-}
-
-/// Whether the sizes of a quote are in bounds; those of no bid are 0.
-fn is_sized_quote(quote: Quote) -> bool
-    ensures { result ≡ sized_quote quote }
-{
-    let bid_sized = if quote.bid == 0 {
-        quote.bid_size == 0
-    } else {
-        is_size(quote.bid_size)
-    };
-    bid_sized & is_size(quote.offer_size)
-}
-
-/// Whether the prices of a quote are in bounds; no bid is 0.
-fn is_priced_quote(quote: Quote) -> bool
-    ensures { result ≡ priced_quote quote }
-{
-    ((quote.bid == 0) | is_price(quote.bid)) & is_price(quote.offer)
-}
-
-/// The contracts left of a row that stands, or none.
-fn left_in(row: Option<Row>) -> u32
-    ensures { result ≡ left_in row }
-{
-    match row {
-        Some(row) => row.left,
-        None => 0,
-    }
-}
+use crate::checks::check_quote;
+use crate::row::{Order, Quote, Row, TakenBack};
+use arrayvec::ArrayVec;
+use interest::{Refusal, Side};
 
 impl Book {
     /// A table with no row.
@@ -124,9 +18,16 @@ impl Book {
         ensures { rows_of result ≡ [] }
     {
         Book {
-            rows: [EMPTY; 128],
-            count: 0,
+            rows: ArrayVec::new(),
         }
+    }
+
+    /// Where a row belongs: behind the rows of its own place and of those before.
+    fn index_for(&self, row: Row) -> usize
+        ensures { result ≡ count_by (λ x. nat_le (place x) (place row)) (rows_of self.now) }
+    {
+        let place = row.place();
+        self.rows().partition_point(|other| other.place() <= place)
     }
 
     /// Puts a row in its place.
@@ -134,47 +35,8 @@ impl Book {
         requires { sound_table (placed row (rows_of self.old)) ≡ true }
         ensures { rows_of self.new ≡ placed row (rows_of self.old) }
     {
-        let count = self.count;
-        let at = rows_up_to(self.rows(), place_of(row));
-        insert_at(&mut self.rows, count, at, row);
-        self.count = count + 1;
-    }
-
-    /// Takes what is sought out; the other rows keep their order.
-    fn take_away(&mut self, sought: Sought)
-        ensures { rows_of self.new ≡ filter (λ x. not (seeks sought x)) (rows_of self.old) }
-    {
-        let count = self.count;
-        self.count = take_from(&mut self.rows, count, sought);
-    }
-
-    /// The first row that is sought.
-    pub(crate) fn find(&self, sought: Sought) -> Option<Row>
-        ensures { result ≡ first (seeks sought) (rows_of self.now) }
-    {
-        find(self.rows(), sought)
-    }
-
-    /// The first cause to refuse an order.
-    fn add_cause(&self, order: Order) -> Option<Refusal>
-        ensures { result ≡ add_cause order (rows_of self.now) }
-    {
-        if order.number == 0 {
-            return Some(Refusal::NumberOutOfBounds);
-        }
-        if !is_size(order.size) {
-            return Some(Refusal::SizeOutOfBounds);
-        }
-        if !is_limit(order.limit) {
-            return Some(Refusal::PriceNotPermitted);
-        }
-        if self.has_order(order.number) {
-            return Some(Refusal::NumberStanding);
-        }
-        if ORDERS <= self.orders() {
-            return Some(Refusal::BookFull);
-        }
-        None
+        let at = self.index_for(row);
+        self.rows.insert(at, row);
     }
 
     /// Adds an order as the last of the orders, and answers its size.
@@ -183,13 +45,9 @@ impl Book {
         ensures table { rows_of self.new ≡ (if is_ok result then added order (rows_of self.old) else rows_of self.old) }
         ensures effects { OnOk result (OrderAdded order (rows_of self.old) (rows_of self.new)) }
     {
-        match self.add_cause(order) {
-            Some(refusal) => Err(refusal),
-            None => {
-                self.insert(order_row(order));
-                Ok(order.size)
-            }
-        }
+        self.check_order(order)?;
+        self.insert(order.into());
+        Ok(order.size)
     }
 
     /// Takes an order out, and answers the contracts left of it.
@@ -201,23 +59,23 @@ impl Book {
         if number == 0 {
             return Err(Refusal::NumberOutOfBounds);
         }
-        match self.find(Sought::Order(number)) {
-            None => Err(Refusal::NothingStanding),
-            Some(row) => {
-                self.take_away(Sought::Order(number));
-                Ok(row.left)
-            }
-        }
+        let order = self.order(number).ok_or(Refusal::NothingStanding)?;
+        self.rows.retain(|row| !row.is_order(number));
+        Ok(order.left)
     }
 
-    /// The contracts left of a maker's quote.
-    fn left_of_quote(&self, maker: u32) -> TakenBack
-        ensures { result ≡ left_of_quote maker (rows_of self.now) }
+    /// Takes the sides of a maker's quote out, and answers the contracts left of them.
+    fn take_sides(&mut self, maker: u32) -> TakenBack
+        ensures back { result ≡ left_of_quote maker (rows_of self.old) }
+        ensures table { rows_of self.new ≡ without_quote maker (rows_of self.old) }
     {
-        TakenBack {
-            bids: left_in(self.find(Sought::QuoteSide(maker, Side::Buy))),
-            offers: left_in(self.find(Sought::QuoteSide(maker, Side::Sell))),
-        }
+        let left = |side| self.quote_side(maker, side).map_or(0, |row| row.left);
+        let back = TakenBack {
+            bids: left(Side::Buy),
+            offers: left(Side::Sell),
+        };
+        self.rows.retain(|row| !row.is_quote_of(maker));
+        back
     }
 
     /// Puts in the sides of a quote whose maker has none.
@@ -227,9 +85,9 @@ impl Book {
         ensures { rows_of self.new ≡ quoted maker quote (rows_of self.old) }
     {
         if quote.bid > 0 {
-            self.insert(quote_row(maker, Side::Buy, quote.bid, quote.bid_size));
+            self.insert(Row::quoted(maker, Side::Buy, quote.bid, quote.bid_size));
         }
-        self.insert(quote_row(maker, Side::Sell, quote.offer, quote.offer_size));
+        self.insert(Row::quoted(maker, Side::Sell, quote.offer, quote.offer_size));
     }
 
     /// Replaces a maker's quote, and answers the contracts left of the former one.
@@ -238,28 +96,10 @@ impl Book {
         ensures table { rows_of self.new ≡ (if is_ok result then quoted maker quote (rows_of self.old) else rows_of self.old) }
         ensures effects { IfOk result (λ back. QuoteSet maker quote back (rows_of self.old) (rows_of self.new)) }
     {
-        match quote_cause(maker, quote) {
-            Some(refusal) => Err(refusal),
-            None => {
-                let back = self.left_of_quote(maker);
-                self.take_away(Sought::Quote(maker));
-                self.put_quote(maker, quote);
-                Ok(back)
-            }
-        }
-    }
-
-    /// The first cause to refuse to take a quote out.
-    fn quote_out_cause(&self, maker: u32) -> Option<Refusal>
-        ensures { result ≡ quote_out_cause maker (rows_of self.now) }
-    {
-        if !is_maker(maker) {
-            return Some(Refusal::NumberOutOfBounds);
-        }
-        if !self.has_quote(maker) {
-            return Some(Refusal::NothingStanding);
-        }
-        None
+        check_quote(maker, quote)?;
+        let back = self.take_sides(maker);
+        self.put_quote(maker, quote);
+        Ok(back)
     }
 
     /// Takes a maker's quote out, and answers the contracts left of it.
@@ -268,13 +108,7 @@ impl Book {
         ensures table { rows_of self.new ≡ (if is_ok result then without_quote maker (rows_of self.old) else rows_of self.old) }
         ensures effects { IfOk result (λ back. QuoteOut maker back (rows_of self.old) (rows_of self.new)) }
     {
-        match self.quote_out_cause(maker) {
-            Some(refusal) => Err(refusal),
-            None => {
-                let back = self.left_of_quote(maker);
-                self.take_away(Sought::Quote(maker));
-                Ok(back)
-            }
-        }
+        self.check_quote_out(maker)?;
+        Ok(self.take_sides(maker))
     }
 }

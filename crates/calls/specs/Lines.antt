@@ -1,5 +1,6 @@
 -- What a line of a morning tells.
 use Rattle.std.specs.Prelude.{ℕ, List, Some, None, Option}
+use Rattle.std.specs.Option.{option_map}
 use Rattle.calls.specs.declared.AuctionCall.{AuctionCall}
 use Rattle.calls.specs.declared.lines.MorningLine.{MorningLine}
 use Rattle.calls.specs.declared.lines.MorningLine.TheVariants.{Auction, Other}
@@ -11,11 +12,11 @@ pub data Heard : Type 0 where
   on_auction : AuctionCall → Heard
   other : Told → Heard
 
-abbrev pub auction_or : Option AuctionCall → Told → Heard
-auction_or None else' = other else'
-auction_or (Some c) else' = on_auction c
+abbrev pub auction_or : Option AuctionCall → Option Told → Option Heard
+auction_or None else' = option_map other else'
+auction_or (Some c) else' = Some (on_auction c)
 
-abbrev pub morning_of : List (List ℕ) → Heard
+abbrev pub morning_of : List (List ℕ) → Option Heard
 morning_of w = auction_or (auction_call_of w) (line_of w)
 
 abbrev pub heard : MorningLine → Heard

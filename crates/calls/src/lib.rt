@@ -1,37 +1,30 @@
-//! The calls of the auction, the first word being the call's name.
+//! The calls of the auction, the first word being the call's name. Each has a function of its own: the words after the name
+//! differ in number and in kind, and one function for all would take a closure for each word.
 #![tactic(auto)]
 
 pub mod lines;
 
 ghost use Rattle.std.specs.Prelude.{◌≡◌, map};
-ghost use Rattle.calls.specs.Calls.{make_call, settings_named, enter_call, withdraw_call, quote_call, pull_call, tick_call, read_order_call, read_quote_call, read_call, show_call, entry_call, auction_call_of};
+ghost use Rattle.calls.specs.Calls.{make_call, settings_named, enter_call, withdraw_call, quote_call, pull_call, tick_call, read_call, show_call, auction_call_of};
 
 use book::row::{Order, Quote};
+use choices::{NamedLadder, NamedRule};
 use interest::Side;
 use script::names::{
-    LadderName, RuleName, class_named, has, is, ladder_named, limit_named, market_side, order_side,
-    rule_named, time_named, word,
+    class_named, close_named, is, ladder_named, limit_named, market_side, order_side, rule_named,
+    time_named,
 };
 use script::text::number;
-
-/// The numbers that an auction is made with, in bounds or not.
-#[derive(Clone, Copy)]
-pub struct NamedSettings {
-    pub close: u32,
-    pub underlying: u32,
-    pub window: u32,
-    pub imbalance: u32,
-    pub route: u32,
-    pub extra: u32,
-}
+use stages::Settings;
 
 /// A call of the auction.
 #[derive(Clone, Copy)]
 pub enum AuctionCall {
+    /// The settings may be out of bounds.
     Make {
-        ladder: LadderName,
-        rule: RuleName,
-        settings: NamedSettings,
+        ladder: NamedLadder,
+        rule: NamedRule,
+        settings: Settings,
     },
     Enter(Order),
     Withdraw {
@@ -58,90 +51,73 @@ pub enum AuctionCall {
     Show,
 }
 
-// The settings from the fourth word on.
-fn settings_named(words: &[&[u8]]) -> Option<NamedSettings>
+fn settings_named(words: &[&[u8]]) -> Option<Settings>
     ensures { result ≡ settings_named (map (λ x. x.now) words.now) }
 {
-    let close = number(word(words, 3))?;
-    let underlying = number(word(words, 4))?;
-    let window = number(word(words, 5))?;
-    let imbalance = number(word(words, 6))?;
-    let route = number(word(words, 7))?;
-    let extra = number(word(words, 8))?;
-    Some(NamedSettings {
-        close,
-        underlying,
-        window,
-        imbalance,
-        route,
-        extra,
+    let [close, underlying, window, imbalance, route, extra] = words else {
+        return None;
+    };
+    Some(Settings {
+        close: close_named(close)?,
+        underlying: number(underlying)?,
+        window: number(window)?,
+        imbalance: number(imbalance)?,
+        route: number(route)?,
+        extra: number(extra)?,
     })
 }
 
 fn make_call(words: &[&[u8]]) -> Option<AuctionCall>
     ensures { result ≡ make_call (map (λ x. x.now) words.now) }
 {
-    if !has(words, 9) {
+    let [ladder, rule, settings @ ..] = words else {
         return None;
-    }
-    let ladder = ladder_named(word(words, 1))?;
-    let rule = rule_named(word(words, 2))?;
-    let settings = settings_named(words)?;
+    };
     Some(AuctionCall::Make {
-        ladder,
-        rule,
-        settings,
+        ladder: ladder_named(ladder)?,
+        rule: rule_named(rule)?,
+        settings: settings_named(settings)?,
     })
 }
 
 fn enter_call(words: &[&[u8]]) -> Option<AuctionCall>
     ensures { result ≡ enter_call (map (λ x. x.now) words.now) }
 {
-    if !has(words, 6) {
+    let [order, side, limit, size, class] = words else {
         return None;
-    }
-    let number = number(word(words, 1))?;
-    let side = order_side(word(words, 2))?;
-    let limit = limit_named(word(words, 3))?;
-    let size = script::text::number(word(words, 4))?;
-    let class = class_named(word(words, 5))?;
+    };
     Some(AuctionCall::Enter(Order {
-        number,
-        side,
-        limit,
-        size,
-        class,
+        number: number(order)?,
+        side: order_side(side)?,
+        limit: limit_named(limit)?,
+        size: number(size)?,
+        class: class_named(class)?,
     }))
 }
 
 fn withdraw_call(words: &[&[u8]]) -> Option<AuctionCall>
     ensures { result ≡ withdraw_call (map (λ x. x.now) words.now) }
 {
-    if !has(words, 2) {
+    let [order] = words else {
         return None;
-    }
-    let number = number(word(words, 1))?;
+    };
+    let number = number(order)?;
     Some(AuctionCall::Withdraw { number })
 }
 
 fn quote_call(words: &[&[u8]]) -> Option<AuctionCall>
     ensures { result ≡ quote_call (map (λ x. x.now) words.now) }
 {
-    if !has(words, 6) {
+    let [maker, bid, bid_size, offer, offer_size] = words else {
         return None;
-    }
-    let maker = number(word(words, 1))?;
-    let bid = number(word(words, 2))?;
-    let bid_size = number(word(words, 3))?;
-    let offer = number(word(words, 4))?;
-    let offer_size = number(word(words, 5))?;
+    };
     Some(AuctionCall::Quote {
-        maker,
+        maker: number(maker)?,
         quote: Quote {
-            bid,
-            bid_size,
-            offer,
-            offer_size,
+            bid: number(bid)?,
+            bid_size: number(bid_size)?,
+            offer: number(offer)?,
+            offer_size: number(offer_size)?,
         },
     })
 }
@@ -149,74 +125,64 @@ fn quote_call(words: &[&[u8]]) -> Option<AuctionCall>
 fn pull_call(words: &[&[u8]]) -> Option<AuctionCall>
     ensures { result ≡ pull_call (map (λ x. x.now) words.now) }
 {
-    if !has(words, 2) {
+    let [maker] = words else {
         return None;
-    }
-    let maker = number(word(words, 1))?;
+    };
+    let maker = number(maker)?;
     Some(AuctionCall::Pull { maker })
 }
 
 fn tick_call(words: &[&[u8]]) -> Option<AuctionCall>
     ensures { result ≡ tick_call (map (λ x. x.now) words.now) }
 {
-    if !has(words, 3) {
+    let [time, underlying] = words else {
         return None;
-    }
-    let time = number(word(words, 1))?;
-    let underlying = time_named(word(words, 2))?;
-    Some(AuctionCall::Tick { time, underlying })
-}
-
-fn read_order_call(words: &[&[u8]]) -> Option<AuctionCall>
-    ensures { result ≡ read_order_call (map (λ x. x.now) words.now) }
-{
-    if !has(words, 3) {
-        return None;
-    }
-    let number = number(word(words, 2))?;
-    Some(AuctionCall::ReadOrder { number })
-}
-
-fn read_quote_call(words: &[&[u8]]) -> Option<AuctionCall>
-    ensures { result ≡ read_quote_call (map (λ x. x.now) words.now) }
-{
-    if !has(words, 4) {
-        return None;
-    }
-    let maker = number(word(words, 2))?;
-    let side = market_side(word(words, 3))?;
-    Some(AuctionCall::ReadQuote { maker, side })
+    };
+    Some(AuctionCall::Tick {
+        time: number(time)?,
+        underlying: time_named(underlying)?,
+    })
 }
 
 fn read_call(words: &[&[u8]]) -> Option<AuctionCall>
     ensures { result ≡ read_call (map (λ x. x.now) words.now) }
 {
-    let what = word(words, 1);
-    if is(what, "order") {
-        read_order_call(words)
-    } else if is(what, "quote") {
-        read_quote_call(words)
-    } else {
-        None
+    match words {
+        [b"order", order] => {
+            let number = number(order)?;
+            Some(AuctionCall::ReadOrder { number })
+        }
+        [b"quote", maker, side] => Some(AuctionCall::ReadQuote {
+            maker: number(maker)?,
+            side: market_side(side)?,
+        }),
+        _ => None,
     }
 }
 
 fn show_call(words: &[&[u8]]) -> Option<AuctionCall>
     ensures { result ≡ show_call (map (λ x. x.now) words.now) }
 {
-    if has(words, 1) {
-        Some(AuctionCall::Show)
-    } else {
-        None
-    }
+    words.is_empty().then_some(AuctionCall::Show)
 }
 
-// The calls of members: what they enter and take back.
-fn entry_call(words: &[&[u8]]) -> Option<AuctionCall>
-    ensures { result ≡ entry_call (map (λ x. x.now) words.now) }
+/// The call of the auction that the words of a line make, or none.
+pub fn auction_call_of(words: &[&[u8]]) -> Option<AuctionCall>
+    ensures { result ≡ auction_call_of (map (λ x. x.now) words.now) }
 {
-    let name = word(words, 0);
-    if is(name, "enter") {
+    let [name, words @ ..] = words else {
+        return None;
+    };
+    // A `match` on so many byte strings was tried in `script::calls`; its proof did not close.
+    if is(name, "make") {
+        make_call(words)
+    } else if is(name, "tick") {
+        tick_call(words)
+    } else if is(name, "read") {
+        read_call(words)
+    } else if is(name, "show") {
+        show_call(words)
+    } else if is(name, "enter") {
         enter_call(words)
     } else if is(name, "withdraw") {
         withdraw_call(words)
@@ -226,23 +192,5 @@ fn entry_call(words: &[&[u8]]) -> Option<AuctionCall>
         pull_call(words)
     } else {
         None
-    }
-}
-
-/// The call of the auction that the words of a line make, or none.
-pub fn auction_call_of(words: &[&[u8]]) -> Option<AuctionCall>
-    ensures { result ≡ auction_call_of (map (λ x. x.now) words.now) }
-{
-    let name = word(words, 0);
-    if is(name, "make") {
-        make_call(words)
-    } else if is(name, "tick") {
-        tick_call(words)
-    } else if is(name, "read") {
-        read_call(words)
-    } else if is(name, "show") {
-        show_call(words)
-    } else {
-        entry_call(words)
     }
 }

@@ -1,5 +1,6 @@
 //! What a line of a morning tells: a call of the auction first, and else what a line of a script tells.
 ghost use Rattle.std.specs.Prelude.{◌≡◌, map};
+ghost use Rattle.std.specs.Option.{option_map};
 ghost use Rattle.calls.specs.Lines.{morning_of, heard};
 
 use crate::{AuctionCall, auction_call_of};
@@ -12,12 +13,12 @@ pub enum MorningLine {
     Other(Line),
 }
 
-/// What the words of a line of a morning tell.
-pub fn morning_line_of(words: &[&[u8]]) -> MorningLine
-    ensures { heard result ≡ morning_of (map (λ x. x.now) words.now) }
+/// What the words of a line of a morning tell, where they are understood.
+pub fn morning_line_of(words: &[&[u8]]) -> Option<MorningLine>
+    ensures { option_map heard result ≡ morning_of (map (λ x. x.now) words.now) }
 {
     match auction_call_of(words) {
-        Some(call) => MorningLine::Auction(call),
-        None => MorningLine::Other(line_of(words)),
+        Some(call) => Some(MorningLine::Auction(call)),
+        None => line_of(words).map(MorningLine::Other),
     }
 }

@@ -5,15 +5,15 @@ use Rattle.ladder.specs.Rungs.{stepped}
 use Rattle.sharing.specs.declared.level.Holding.{Holding}
 use Rattle.sharing.specs.InOrder.{time_shares}
 use Rattle.sharing.specs.ProRata.{size_shares}
-use Rattle.script.specs.declared.names.LadderName.{LadderName}
-use Rattle.script.specs.declared.names.LadderName.TheVariants.{Cent, Stepped}
-use Rattle.script.specs.declared.names.RuleName.{RuleName}
-use Rattle.script.specs.declared.names.RuleName.TheVariants.{Time, ProRata}
+use Rattle.choices.specs.declared.NamedLadder.{NamedLadder}
+use Rattle.choices.specs.declared.NamedLadder.TheVariants.{Cent, Stepped}
+use Rattle.choices.specs.declared.NamedRule.{NamedRule}
+use Rattle.choices.specs.declared.NamedRule.TheVariants.{Time, ProRata}
 
-abbrev pub permitted_by : LadderName → ℕ → Bool
+abbrev pub permitted_by : NamedLadder → ℕ → Bool
 permitted_by Cent p = priced p
 permitted_by Stepped p = stepped p
 
-abbrev pub shares_by : RuleName → ℕ → List Holding → List ℕ
+abbrev pub shares_by : NamedRule → ℕ → List Holding → List ℕ
 shares_by Time q rows = time_shares q rows
 shares_by ProRata q rows = size_shares q rows

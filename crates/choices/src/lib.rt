@@ -5,60 +5,66 @@ ghost use Rattle.choices.specs.Choices.{permitted_by, shares_by};
 ghost use Rattle.std.proofs.Common.{rules};
 ghost use Rattle.choices.specs.RuleByNameLemmas.{each-by, within_by, whole_by};
 
+use arrayvec::ArrayVec;
 use ladder::{EveryCent, Ladder, Stepped};
-use script::names::{LadderName, RuleName};
 use sharing::{LEVEL_ROWS, Level, SharingRule, SizeProRata, TimePriority};
 
-/// The ladder of that name.
-#[derive(Clone, Copy)]
-pub struct NamedLadder(pub LadderName);
+/// A ladder by its name.
+#[derive(Clone, Copy, PartialEq, Eq, Debug)]
+pub enum NamedLadder {
+    Cent,
+    Stepped,
+}
 
 impl Ladder for NamedLadder {
-    ghost permitted = { λ s. permitted_by s.0 };
+    ghost permitted = { permitted_by };
 
     ghost top = { Prim.search rules };
 
     ghost within = { Prim.search rules };
 
     fn permits(&self, price: u32) -> bool {
-        match self.0 {
-            LadderName::Cent => EveryCent.permits(price),
-            LadderName::Stepped => Stepped.permits(price),
+        match self {
+            NamedLadder::Cent => EveryCent.permits(price),
+            NamedLadder::Stepped => Stepped.permits(price),
         }
     }
 
     fn at_or_above(&self, price: u32) -> Option<u32> {
-        match self.0 {
-            LadderName::Cent => EveryCent.at_or_above(price),
-            LadderName::Stepped => Stepped.at_or_above(price),
+        match self {
+            NamedLadder::Cent => EveryCent.at_or_above(price),
+            NamedLadder::Stepped => Stepped.at_or_above(price),
         }
     }
 
     fn at_or_below(&self, price: u32) -> Option<u32> {
-        match self.0 {
-            LadderName::Cent => EveryCent.at_or_below(price),
-            LadderName::Stepped => Stepped.at_or_below(price),
+        match self {
+            NamedLadder::Cent => EveryCent.at_or_below(price),
+            NamedLadder::Stepped => Stepped.at_or_below(price),
         }
     }
 }
 
-/// The sharing rule of that name.
-#[derive(Clone, Copy)]
-pub struct NamedRule(pub RuleName);
+/// A sharing rule by its name.
+#[derive(Clone, Copy, PartialEq, Eq, Debug)]
+pub enum NamedRule {
+    Time,
+    ProRata,
+}
 
 impl SharingRule for NamedRule {
-    ghost shares = { λ s. shares_by s.0 };
+    ghost shares = { shares_by };
 
-    ghost each = { λ x q rows. each-by x.0 q rows };
+    ghost each = { each-by };
 
-    ghost within = { λ x q rows. within_by x.0 q rows };
+    ghost within = { within_by };
 
-    ghost whole = { λ x q rows. whole_by x.0 q rows };
+    ghost whole = { whole_by };
 
-    fn share(&self, quantity: u32, level: &Level) -> [u32; LEVEL_ROWS] {
-        match self.0 {
-            RuleName::Time => TimePriority.share(quantity, level),
-            RuleName::ProRata => SizeProRata.share(quantity, level),
+    fn share(&self, quantity: u32, level: &Level) -> ArrayVec<u32, LEVEL_ROWS> {
+        match self {
+            NamedRule::Time => TimePriority.share(quantity, level),
+            NamedRule::ProRata => SizeProRata.share(quantity, level),
         }
     }
 }

@@ -44,9 +44,9 @@ settled_is permitted f g edges done mid after same em ea =
     ea ∙ ap (map (rested_row permitted (λ side. best_of side (g side)))) em ∙ ap (λ (k : Side → ℕ → ℕ). map (rested_row permitted (λ side. best_of side (k side))) (map (cancel_through edges) done)) e
 
 pub after-is-rows : (permitted : ℕ → Bool) (shares : ℕ → List Holding → List ℕ) (counts : Side → ℕ → ℕ) (o : Opening) (rows done after : List Row) (edges : Edges)
-    → done ≡ executed shares counts o.kind (priced_only o.price) o.volume rows → edges ≡ edges_of o.kind (priced_only o.price) o.low o.high → after ≡ settled permitted (counts_left counts rows done) edges done
+    → done ≡ executed shares counts o.kind (priced_only o.price) o.volume rows → edges ≡ edges_of o.kind (priced_only o.price) o.range → after ≡ settled permitted (counts_left counts rows done) edges done
     → after ≡ rows_after permitted shares counts o rows
 unfolding rows_after
 after-is-rows permitted shares counts o rows done after edges ed ee ea =
     ea ∙ ap (λ (e : Edges). settled permitted (counts_left counts rows done) e done) ee
-    ∙ ap (λ (x : List Row). settled permitted (counts_left counts rows x) (edges_of o.kind (priced_only o.price) o.low o.high) x) ed
+    ∙ ap (λ (x : List Row). settled permitted (counts_left counts rows x) (edges_of o.kind (priced_only o.price) o.range) x) ed

@@ -43,14 +43,14 @@ rest-short P Buy (Some a) (At x) g best some q hq gq =
     let t = priced-tells q hq in
     let far : a ≤ q = elim (cases_lt q a) [ inl lt ↦ absurd (omega (arith, best.3 q t.0 t.1 lt)) | inr le ↦ le ] in
     elim (cases_Bool (leb a x)) [
-      | inl e ↦ (let s : (resting_at P Buy (Some a) (At x)).shown ≡ beside P Buy a = ap (λ (r : Resting). r.shown) (cond-true (leb a x) _ _ e) in omega (arith, s, below-offer P a best.0))
+      | inl e ↦ (let s : (resting_at P Buy (Some a) (At x)).shown ≡ unwrap_or (beside P Buy a) 0 = ap (λ (r : Resting). r.shown) (cond-true (leb a x) _ _ e) in omega (arith, s, below-offer P a best.0))
       | inr e ↦ (let s : (resting_at P Buy (Some a) (At x)).shown ≡ x = ap (λ (r : Resting). r.shown) (cond-false (leb a x) _ _ e) in omega (arith, s, leb-false a x e))
     ]
 rest-short P Sell (Some a) (At x) g best some q hq gq =
     let t = priced-tells q hq in
     let far : q ≤ a = elim (cases_lt a q) [ inl lt ↦ absurd (omega (arith, best.3 q t.0 t.1 lt)) | inr le ↦ le ] in
     elim (cases_Bool (leb x a)) [
-      | inl e ↦ (let s : (resting_at P Sell (Some a) (At x)).shown ≡ beside P Sell a = ap (λ (r : Resting). r.shown) (cond-true (leb x a) _ _ e) in omega (arith, s, above-bid P a (omega (arith, s))))
+      | inl e ↦ (let s : (resting_at P Sell (Some a) (At x)).shown ≡ unwrap_or (beside P Sell a) 0 = ap (λ (r : Resting). r.shown) (cond-true (leb x a) _ _ e) in omega (arith, s, above-bid P a (omega (arith, s))))
       | inr e ↦ (let s : (resting_at P Sell (Some a) (At x)).shown ≡ x = ap (λ (r : Resting). r.shown) (cond-false (leb x a) _ _ e) in omega (arith, s, leb-false x a e))
     ]
 

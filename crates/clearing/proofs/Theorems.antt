@@ -25,11 +25,15 @@ use Rattle.clearing.specs.declared.opening.Kind.{Kind}
 use Rattle.clearing.specs.declared.opening.Kind.TheVariants.{Plain, Quick, Exchange, Routed, Forced}
 use Rattle.clearing.specs.declared.opening.Opening.{Opening}
 use Rattle.clearing.specs.Kinds.{routes, is_forced}
-use Rattle.clearing.specs.Openings.{priced_only, PricedOption, traded_on, routed_on, counts_left, sent_at, better_than, filled_at, after_fill, after_price, sent_own, executed, settled}
+use Rattle.clearing.specs.Openings.{priced_only, traded_on, routed_on, counts_left, sent_at, better_than, filled_at, after_fill, after_price, sent_own, executed, settled}
 use Rattle.clearing.specs.Promises.{better_for, Usable, TradesVolume, takes_opening, TradesWithin, BestFirst, NothingBetter, SpentAt, SpentOwn, Quiet, RestsShort}
 use Rattle.clearing.proofs.BothSides.{Sent, sent-both, routed-sum-other, fill-routed, fill-both, settled-sum}
 use Rattle.clearing.proofs.RowWise.{rows_then, rows_at, rows-length, same_then, rank_same, SentRow, SettledRow, sent-one, sent-rows, sent-stay, settled-rows, Done, done_none, sent-done, done-sent, fill_done}
 use Rattle.clearing.proofs.Shorts.{row-short}
+
+abbrev pub PricedOption : Option ℕ → Type 0
+PricedOption None = Unit {0}
+PricedOption (Some p) = priced p ≡ true
 
 pub option-priced : (price : Option ℕ) → PricedOption (priced_only price)
 option-priced None = tt
@@ -53,10 +57,6 @@ sent-grows f ask p rows s = omega (arith, (sent-sums f ask p rows).routes s)
 
 sent-sound : (a b : List Row) → RowByRow SentRow a b → sound_table a ≡ true → sound_table b ≡ true
 sent-sound a b h sd = table_same a b (done_none None a b h).same ∙ sd
-
--- the count at better prices, one step from a price in bounds
-count-raw : (f : ℕ → ℕ) (p : ℕ) → count_at f p ≤ f p
-count-raw f p = elim (priced p) as (λ b. cond b (f p) 0 ≤ f p) [ true ↦ omega arith | false ↦ omega arith ]
 
 better-count : (counts : Side → ℕ → ℕ) → ((d : Side) → counts d (beyond d) ≡ 0) → (p : ℕ) → priced p ≡ true → (s : Side) → better_for counts p s ≡ count_at (counts (opposite s)) (better_than p s)
 better-count counts edge p hp Buy =

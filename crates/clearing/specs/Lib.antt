@@ -3,3 +3,4 @@ pub mod Kinds
 pub mod Openings
 pub mod Reports
 pub mod Promises
+pub mod Texts

@@ -1,5 +1,5 @@
 -- What an opening makes of the rows and of what the away market shows.
-use Rattle.std.specs.Prelude.{◌≡◌, ℕ, ◌-◌, Bool, true, cond, List, map, Some, None, Option}
+use Rattle.std.specs.Prelude.{◌≡◌, ℕ, ◌-◌, Bool, cond, List, map, Some, None, Option}
 use Rattle.interest.specs.Bounds.{priced}
 use Rattle.interest.specs.declared.Side.{Side}
 use Rattle.interest.specs.declared.Side.TheVariants.{Buy, Sell}
@@ -8,12 +8,14 @@ use Rattle.market.specs.Counts.{one_better, best_of}
 use Rattle.sharing.specs.declared.level.Holding.{Holding}
 use Rattle.book.specs.declared.row.Row.{Row}
 use Rattle.book.specs.Ranks.{of_side, total_of, ranks_at}
+use Rattle.ranges.specs.declared.Range.{Range}
 use Rattle.filling.specs.Fills.{filled_rows}
 use Rattle.routing.specs.Routes.{count_at, own_limit, routed_rows}
 use Rattle.settling.specs.declared.Edges.{Edges}
 use Rattle.settling.specs.Settles.{cancel_through, rested_row}
 use Rattle.clearing.specs.declared.opening.Kind.{Kind}
 use Rattle.clearing.specs.declared.opening.Opening.{Opening}
+use Rattle.clearing.specs.declared.price.Price.{Price}
 use Rattle.clearing.specs.Kinds.{routes, is_forced}
 
 -- a price out of bounds is none
@@ -21,13 +23,13 @@ abbrev pub priced_only : Option ℕ → Option ℕ
 priced_only None = None
 priced_only (Some p) = cond (priced p) (Some p) None
 
-abbrev pub PricedOption : Option ℕ → Type 0
-PricedOption None = Unit {0}
-PricedOption (Some p) = priced p ≡ true
+abbrev pub told_price : Option Price → Option ℕ
+told_price None = None
+told_price (Some p) = Some p.cents
 
-abbrev pub by_side : ℕ → ℕ → Side → ℕ
-by_side buys sells Buy = buys
-by_side buys sells Sell = sells
+-- what is answered of each side is its price
+abbrev pub AnswersBySide : (Side → ℕ → Type 0) → (Side → ℕ) → Type 0
+AnswersBySide answers price = (side : Side) (p : ℕ) → answers side p → p ≡ price side
 
 -- a step taken for each side; the sides do not touch each other
 abbrev pub both_sides : (Side → List Row → List Row) → List Row → List Row
@@ -46,6 +48,10 @@ cancelled_on side rows = total_of (λ (r : Row). r.cancelled) (of_side side) row
 -- what the away market shows once the rows have come from `before` to `after`: its counts less what the rows on the other side have sent
 abbrev pub counts_left : (Side → ℕ → ℕ) → List Row → List Row → Side → ℕ → ℕ
 counts_left counts before after side p = counts side p - (routed_on (opposite side) after - routed_on (opposite side) before)
+
+-- the away market is left with just that
+abbrev pub CountsLeft : (Side → ℕ → ℕ) → (Side → ℕ → ℕ) → List Row → List Row → Type 0
+CountsLeft counts left before after = (side : Side) (q : ℕ) → left side q ≡ counts_left counts before after side q
 
 -- the routable rows that take p, each side's sent at its own price
 abbrev pub sent_at : (Side → ℕ → ℕ) → (Side → ℕ) → ℕ → List Row → List Row
@@ -75,9 +81,9 @@ executed shares counts kind (Some p) volume rows = cond (routes kind) (after_pri
 executed shares counts kind None volume rows = cond (is_forced kind) (sent_own counts rows) rows
 
 -- cancelled are market contracts and those through the price; without one, in a forced opening, those beyond the range
-abbrev pub edges_of : Kind → Option ℕ → ℕ → ℕ → Edges
-edges_of kind (Some p) low high = record { buys = p; sells = p }
-edges_of kind None low high = cond {A = Edges} (is_forced kind) (record { buys = high; sells = low }) (record { buys = 100000; sells = 1 })
+abbrev pub edges_of : Kind → Option ℕ → Range → Edges
+edges_of kind (Some p) range = record { buys = p; sells = p }
+edges_of kind None range = cond {A = Edges} (is_forced kind) (record { buys = range.high; sells = range.low }) (record { buys = 100000; sells = 1 })
 
 -- what is left cancelled or at rest, next to the best away prices then left
 abbrev pub settled : (ℕ → Bool) → (Side → ℕ → ℕ) → Edges → List Row → List Row
@@ -87,4 +93,4 @@ unfoldable pub rows_after : (ℕ → Bool) → (ℕ → List Holding → List �
 rows_after permitted shares counts o rows =
     let price = priced_only o.price in
     let done = executed shares counts o.kind price o.volume rows in
-    settled permitted (counts_left counts rows done) (edges_of o.kind price o.low o.high) done
+    settled permitted (counts_left counts rows done) (edges_of o.kind price o.range) done

@@ -3,6 +3,7 @@
 
 pub mod carry;
 pub mod opening;
+mod price;
 mod steps;
 mod tally;
 

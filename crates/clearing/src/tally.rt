@@ -1,17 +1,19 @@
 //! What the rows of a side come to.
-ghost use Rattle.std.specs.Prelude.{◌≡◌, cond};
+ghost use Rattle.std.specs.Prelude.{◌≡◌};
 ghost use Rattle.book.specs.Books.{rows_of};
-ghost use Rattle.clearing.specs.Reports.{side_report};
+ghost use Rattle.clearing.specs.Reports.{side_report, price_shown};
 
 use crate::opening::SideReport;
-use book::better_of;
 use book::book::Book;
+use book::row::Row;
 use interest::Side;
+use market::better;
 
-fn counted(of_side: bool, n: u32) -> u32
-    ensures { result ≡ cond of_side n 0 }
+// The price that a row is shown at; a row that is not shown holds 0.
+fn price_shown(row: &Row) -> Option<u32>
+    ensures { result ≡ price_shown row.now }
 {
-    if of_side { n } else { 0 }
+    (0 < row.shown).then_some(row.shown)
 }
 
 pub(crate) fn tally(book: &Book, side: Side) -> SideReport
@@ -19,12 +21,13 @@ pub(crate) fn tally(book: &Book, side: Side) -> SideReport
 {
     let mut routed = 0;
     let mut cancelled = 0;
-    let mut best = 0;
+    let mut best = None;
     for row in book.rows() {
-        let of_side = row.side.is(side);
-        routed += counted(of_side, row.routed);
-        cancelled += counted(of_side, row.cancelled);
-        best = better_of(side, best, counted(of_side, row.shown));
+        if row.side == side {
+            routed += row.routed;
+            cancelled += row.cancelled;
+            best = better(side, best, price_shown(row));
+        }
     }
     SideReport {
         routed,

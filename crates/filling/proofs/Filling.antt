@@ -1,5 +1,5 @@
 -- Filling, level by level.
-use Rattle.std.proofs.Common.{◌≡◌, ℕ, zero, suc, ◌+◌, ◌-◌, ◌<◌, ◌≤◌, min, Bool, true, false, cond, List, [], ◌∷◌, ◌++◌, length, get_or, take, drop, sym, refl, ap, ◌∙◌, subst, inl, inr, arith}
+use Rattle.std.proofs.Common.{◌≡◌, ℕ, Some, None, zero, suc, ◌+◌, ◌-◌, ◌<◌, ◌≤◌, min, Bool, true, false, cond, List, [], ◌∷◌, ◌++◌, length, get_or, take, drop, sym, refl, ap, ◌∙◌, subst, inl, inr, arith}
 use Rattle.std.proofs.lemmas.Bool.Decides.{nat_tests}
 use Rattle.std.proofs.lemmas.Bool.{and_parts, cond-true, cond-false, cases_Bool}
 use Rattle.std.proofs.lemmas.List.{drop_more, drop_all}
@@ -13,7 +13,7 @@ use Rattle.book.proofs.RankFacts.{below_more, below_none, below_up, level-takes}
 use Rattle.levels.specs.Levels.{stands_at, stands_below, holding_of, level_at, next_rank}
 use Rattle.levels.specs.Deals.{deal, share_of, dealt}
 use Rattle.levels.proofs.Dealing.{level-kept, level-total, place-more, dealt-at}
-use Rattle.levels.proofs.Walking.{first, advance}
+use Rattle.levels.proofs.Walking.{begun, reach, advance, ended}
 use Rattle.levels.proofs.Totals.{gained}
 use Rattle.filling.specs.Fills.{level_shares, filled_rows, got_traded, InPriority}
 
@@ -23,32 +23,32 @@ module _ (shares : ℕ → List Holding → List ℕ) (side : Side) (upto volume
     pub rows_are : rows ≡ filled_rows shares side k volume start
     pub rest_is : rest ≡ volume - below (of_side side) k start
 
-  pub fill-first : (k : ℕ) → k ≡ next_rank (of_side side) 0 upto start → Filling start k volume
-  fill-first k e =
-      let w = first (of_side side) trade_row (λ g r. refl) (level_shares shares side volume start) start upto k e in
-      record { most = w.most; rows_are = w.rows_are; rest_is = omega (arith, w.sums, below_none (of_side side) start) }
+  pub fill-begun : Filling start 0 volume
+  fill-begun = record { most = omega arith; rows_are = begun (of_side side) trade_row (λ g r. refl) (level_shares shares side volume start) start; rest_is = omega (arith, below_none (of_side side) start) }
 
   same-level : (k : ℕ) (rows : List Row) → rows ≡ filled_rows shares side k volume start → level_at (of_side side) k rows ≡ level_at (of_side side) k start
   same-level k rows er = ap (level_at (of_side side) k) er ∙ level-kept (of_side side) trade_row (λ g r. refl) (level_shares shares side volume start) k k (omega arith) [] start
 
-  pub record Turned (k : ℕ) (after : List Row) (k' rest' : ℕ) : Type 0 where
-    pub filling : Filling after k' rest'
-    pub further : k < k'
-
-  pub fill-turn : (k rest : ℕ) (rows after : List Row) (k' rest' here : ℕ) → k < upto → rows ≡ filled_rows shares side k volume start → rest ≡ volume - below (of_side side) k start
-      → after ≡ deal (of_side side) trade_row k (shares rest (level_at (of_side side) k rows)) 0 rows → here ≡ at_rank (of_side side) k rows → rest' ≡ rest - here → k' ≡ next_rank (of_side side) (k + 1) upto after
-      → Turned k after k' rest'
-  fill-turn k rest rows after k' rest' here lt er es ea el en ek =
+  pub fill-turn : (n k rest : ℕ) (rows after : List Row) (rest' here : ℕ) → Filling rows n rest → Some k ≡ next_rank (of_side side) n upto rows
+      → after ≡ deal (of_side side) trade_row k (shares rest (level_at (of_side side) k rows)) 0 rows → here ≡ at_rank (of_side side) k rows → rest' ≡ rest - here
+      → Filling after (k + 1) rest'
+  fill-turn n k rest rows after rest' here now ek ea el en =
       let part = of_side side in
-      let sa = same-level k rows er in
-      let sh : shares rest (level_at part k rows) ≡ level_shares shares side volume start k = cc (es, sa) in
+      let S = level_shares shares side volume start in
+      let w = reach part trade_row (λ g r. refl) S start n upto k rows now.rows_are ek in
+      let sa = same-level k rows w.skipped.rows_are in
+      let es : rest ≡ volume - below part k start = omega (arith, now.rest_is, w.skipped.sums) in
+      let sh : shares rest (level_at part k rows) ≡ S k = cc (es, sa) in
       let D : List ℕ → List Row = λ s. deal part trade_row k s 0 rows in
-      let w = advance part trade_row (λ g r. refl) (level_shares shares side volume start) start upto k rows after k' lt er (ea ∙ ap D sh) ek in
       let same : at_rank part k rows ≡ at_rank part k start = sym (level-total part k rows) ∙ ap (λ (xs : List Holding). total (sizes xs)) sa ∙ level-total part k start in
       record {
-        filling = record { most = w.most; rows_are = w.rows_are; rest_is = omega (arith, es, el, en, same, w.sums, below_more part k start) };
-        further = omega (arith, w.least);
+        most = omega (arith, w.within);
+        rows_are = advance part trade_row (λ g r. refl) S start k rows after w.skipped.rows_are (ea ∙ ap D sh);
+        rest_is = omega (arith, es, el, en, same, below_more part k start);
       }
+
+  pub fill-ended : (n rest : ℕ) (rows : List Row) → Filling rows n rest → None ≡ next_rank (of_side side) n upto rows → rows ≡ filled_rows shares side upto volume start
+  fill-ended n rest rows now en = (ended (of_side side) trade_row (λ g r. refl) (level_shares shares side volume start) start n upto rows now.most now.rows_are en).rows_are
 
 -- lists of shares
 le_total : (xs ms : List ℕ) → length xs ≡ length ms → EachAtMost xs ms → total xs ≤ total ms

@@ -1,5 +1,9 @@
 -- A level gathered row by row, and its shares handed out.
-use Rattle.std.proofs.Common.{◌≡◌, ℕ, suc, ◌+◌, ◌<◌, ◌≤◌, Bool, true, false, cond, ◌&&◌, eqb, ltb, leb, List, [], ◌∷◌, ◌++◌, length, get_or, take, is_ok, Ok, Result, sym, refl, ap, ◌∙◌, arith}
+use Rattle.std.proofs.Common.{◌≡◌, ℕ, suc, ◌+◌, ◌<◌, ◌≤◌, Bool, true, false, cond, ◌&&◌, eqb, ltb, leb, List, [], ◌∷◌, ◌++◌, length, get_or, take, drop, is_ok, Ok, Result, Option, Some, None, Bor, sym, refl, ap, ◌∙◌, arith}
+use Rattle.std.specs.Option.{option_copied, unwrap_or}
+use Rattle.std.specs.declared.slice.Iter.{Iter}
+use Rattle.std.specs.Slice.Iter.{iter_rest, iter_steps}
+use Rattle.std.proofs.lemmas.Grind.{get_or_after_one}
 use Rattle.std.proofs.lemmas.Bool.Decides.{nat_tests}
 use Rattle.std.proofs.lemmas.List.{length-take-le}
 use Rattle.std.proofs.lemmas.List.Sums.{sum_by_more, sum_by-take-le}
@@ -8,8 +12,6 @@ use Rattle.interest.specs.Bounds.{sized}
 use Rattle.sharing.specs.declared.level.Holding.{Holding}
 use Rattle.sharing.specs.declared.level.PushError.{PushError}
 use Rattle.sharing.specs.Holdings.{push_answer}
-use Rattle.sharing.specs.Totals.{padded}
-use Rattle.sharing.specs.Pads.{pad-at}
 use Rattle.book.specs.declared.row.Row.{Row}
 use Rattle.book.specs.Rows.{sound_table}
 use Rattle.book.specs.Ranks.{rank_of, at_rank}
@@ -51,14 +53,24 @@ pub count_fits : (part : Row → Bool) (k i : ℕ) (rows : List Row) → length 
 count_fits part k i rows few sound =
     omega (arith, sum_by-take-le (λ (r : Row). cond (part r && eqb (rank_of r) k) r.left 0) rows i, total-le (λ (r : Row). r.left) (λ r. omega arith) (λ r. part r && eqb (rank_of r) k) rows (table-rows rows sound))
 
--- an array of shares has 0 past its end, as a list read there has
-pub deal-padded : (part : Row → Bool) (change : ℕ → Row → Row) (k : ℕ) (xs : List ℕ) (j : ℕ) (rows : List Row) → deal part change k (padded xs) j rows ≡ deal part change k xs j rows
-deal-padded part change k xs j [] = refl
-deal-padded part change k xs j (r ∷ rows) =
-    let e = pad-at xs j in
-    let yes = deal-padded part change k xs (j + 1) rows in
-    let no = deal-padded part change k xs j rows in
-    elim (stands_at part k r) as (λ b. cond b (change (get_or (padded xs) j 0) r ∷ deal part change k (padded xs) (j + 1) rows) (r ∷ deal part change k (padded xs) j rows) ≡ cond b (change (get_or xs j 0) r ∷ deal part change k xs (j + 1) rows) (r ∷ deal part change k xs j rows)) [
+-- after the first share is taken, the rest is dealt out
+pub deal-rest : (part : Row → Bool) (change : ℕ → Row → Row) (k : ℕ) (xs : List ℕ) (j : ℕ) (rows : List Row) → deal part change k xs (j + 1) rows ≡ deal part change k (drop 1 xs) j rows
+deal-rest part change k xs j [] = refl
+deal-rest part change k xs j (r ∷ rows) =
+    let after : j + 1 ≡ 1 + j = omega arith in
+    let e : get_or xs (j + 1) 0 ≡ get_or (drop 1 xs) j 0 = ap (λ (n : ℕ). get_or xs n 0) after ∙ sym (get_or_after_one xs j 0) in
+    let yes = deal-rest part change k xs (j + 1) rows in
+    let no = deal-rest part change k xs j rows in
+    elim (stands_at part k r) as (λ b. cond b (change (get_or xs (j + 1) 0) r ∷ deal part change k xs (j + 1 + 1) rows) (r ∷ deal part change k xs (j + 1) rows) ≡ cond b (change (get_or (drop 1 xs) j 0) r ∷ deal part change k (drop 1 xs) (j + 1) rows) (r ∷ deal part change k (drop 1 xs) j rows)) [
       | true ↦ cc (e, yes)
       | false ↦ cc (no)
     ]
+
+ended : (xs : List ℕ) → length xs ≡ 0 → (xs ≡ drop 1 xs) × (0 ≡ get_or xs 0 0)
+ended [] e = (refl, refl)
+ended (x ∷ xs) e = absurd (omega arith)
+
+-- the first of what an iterator has left, or 0, and what it has left then
+pub next-share : (s t : Iter ℕ) (r : Option (Bor ℕ)) → iter_steps s r t → (iter_rest t ≡ drop 1 (iter_rest s)) × (unwrap_or (option_copied r) 0 ≡ get_or (iter_rest s) 0 0)
+next-share s t None step = let none = ended (iter_rest s) step.0 in (ap iter_rest step.1 ∙ none.0, none.1)
+next-share s t (Some x) step = (sym (ap (drop 1) step), sym (ap (λ (xs : List ℕ). get_or xs 0 0) step))

@@ -1,7 +1,7 @@
 //! Filling: a volume handed to the rows of one side, best level first; a level filled in part is shared.
 #![tactic(auto)]
 
-ghost use Rattle.std.specs.Prelude.{◌≡◌, ℕ, ◌+◌, ◌-◌, ◌<◌, min, length};
+ghost use Rattle.std.specs.Prelude.{◌≡◌, ℕ, ◌+◌, ◌-◌, ◌<◌, min};
 ghost use Rattle.sharing.specs.Levels.{rows_of as holdings_of};
 ghost use Rattle.book.specs.declared.row.Row.{Row as RowOf};
 ghost use Rattle.book.specs.Ranks.{of_side, total_of, below, at_rank};
@@ -49,18 +49,17 @@ fn gather(book: &Book, side: Side, at: u32) -> Gathered
     Gathered { level, contracts }
 }
 
-// Hands the rows of a level their shares, in row order.
+// Hands the rows of a level their shares, in row order; a row past the last share gets nothing.
 fn hand_out(book: &mut Book, side: Side, at: u32, shares: &[u32])
-    requires { length shares.now ≡ 128 }
     ensures { rows_of book.new ≡ deal (of_side side) trade_row at shares.now 0 (rows_of book.old) }
 {
-    let mut place = 0;
-    let count = book.rows().len();
-    for i in 0..count {
+    let mut rest = shares.iter();
+    // By index, since a row is written through the book before the next is read.
+    for i in 0..book.rows().len() {
         let row = book.rows()[i];
         if stands_at(Part::All(side), &row, at) {
-            book.trade(i, shares[place]);
-            place += 1;
+            let share = rest.next().copied().unwrap_or(0);
+            book.trade(i, share);
         }
     }
 }
@@ -92,10 +91,10 @@ pub fn fill<R: SharingRule>(book: &mut Book, side: Side, upto: u32, volume: u32,
 {
     let part = Part::All(side);
     let mut rest = volume;
-    let mut at = next_rank(book.rows(), part, 0, upto);
-    while at < upto {
+    let mut from = 0;
+    while let Some(at) = next_rank(book.rows(), part, from, upto) {
         let contracts = fill_level(book, side, at, rest, rule);
         rest = rest_after(rest, contracts);
-        at = next_rank(book.rows(), part, at + 1, upto);
+        from = at + 1;
     }
 }

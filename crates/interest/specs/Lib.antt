@@ -1,3 +1,4 @@
 pub mod Bounds
 pub mod Sides
 pub mod Refusals
+pub mod Same

@@ -35,7 +35,7 @@ pub trait Ladder {
 fn itself(price: u32) -> Option<u32>
     ensures { result ≡ (if priced price then Some price else None) }
 {
-    if is_price(price) { Some(price) } else { None }
+    is_price(price).then_some(price)
 }
 
 /// Every price.
@@ -79,22 +79,10 @@ impl Ladder for Stepped {
     }
 
     fn at_or_above(&self, price: u32) -> Option<u32> {
-        if !is_price(price) {
-            None
-        } else if price < 300 {
-            Some(price)
-        } else {
-            Some((price + 4) / 5 * 5)
-        }
+        itself(price).map(|p| if p < 300 { p } else { p.next_multiple_of(5) })
     }
 
     fn at_or_below(&self, price: u32) -> Option<u32> {
-        if !is_price(price) {
-            None
-        } else if price < 300 {
-            Some(price)
-        } else {
-            Some(price / 5 * 5)
-        }
+        itself(price).map(|p| if p < 300 { p } else { p / 5 * 5 })
     }
 }

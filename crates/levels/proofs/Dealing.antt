@@ -1,14 +1,18 @@
 -- Dealing out level by level.
-use Rattle.std.proofs.Common.{◌≡◌, ℕ, zero, suc, ◌+◌, ◌<◌, ◌≤◌, Bool, true, false, cond, ◌&&◌, eqb, ltb, ◌⊎◌, List, [], ◌∷◌, ◌++◌, length, get_or, take, sym, refl, ap, ◌∙◌, subst, inl, inr, arith}
+use Rattle.std.specs.List.{reduce}
+use Rattle.std.specs.Option.{unwrap_or}
+use Rattle.std.proofs.lemmas.List.Elements.{All-nil, All-cons, All-head, All-tail, All-same, All-weaker}
+use Rattle.std.proofs.Common.{All, Some, None, Option, ◌≡◌, ℕ, zero, suc, ◌+◌, ◌<◌, ◌≤◌, Bool, true, false, cond, ◌&&◌, eqb, ltb, leb, min, fold, filter, map, List, [], ◌∷◌, ◌++◌, length, get_or, take, sym, refl, ap, ◌∙◌, subst, inl, inr, arith}
 use Rattle.std.proofs.lemmas.Bool.Decides.{nat_tests}
 use Rattle.std.proofs.lemmas.List.Sums.{sum_by-cons}
 use Rattle.std.proofs.lemmas.List.{append_assoc, append-nil}
-use Rattle.std.proofs.lemmas.Bool.{and_left, and_right, ne_eqb, cond-true, cond-false, cases_Bool}
+use Rattle.std.proofs.lemmas.Bool.{and_left, and_right, ne_eqb, cond-true, cond-false, cases_Bool, cases_lt}
+use Rattle.std.proofs.Math.Nat.{min-eq_left, min-eq_right}
 use Rattle.sharing.specs.declared.level.Holding.{Holding}
 use Rattle.sharing.specs.Totals.{total, contracts as sizes}
 use Rattle.book.specs.declared.row.Row.{Row}
 use Rattle.book.specs.Ranks.{rank_of, below, at_rank}
-use Rattle.levels.specs.Levels.{stands_at, stands_below, holding_of, level_at, next_rank, NextRank}
+use Rattle.levels.specs.Levels.{stands_at, stands_below, holding_of, level_at, next_rank, NoneBetween, NextRank}
 use Rattle.levels.specs.Deals.{deal, share_of, dealt}
 
 -- no row that takes part with contracts left has a rank from n part below k
@@ -19,6 +23,11 @@ Gap part n k (r ∷ rows) = (stands_below part k r ≡ true → rank_of r < n) �
 pub gap-refl : (part : Row → Bool) (n : ℕ) (rows : List Row) → Gap part n n rows
 gap-refl part n [] = tt
 gap-refl part n (r ∷ rows) = ((λ t. grind (arith, nat_tests)), gap-refl part n rows)
+
+gap_at : (part : Row → Bool) (n k : ℕ) (rows : List Row) → Gap part n k rows → NoneBetween part n k rows
+gap_at part n k [] gap i d lt h = absurd (omega arith)
+gap_at part n k (r ∷ rows) gap zero d lt h = gap.0 h
+gap_at part n k (r ∷ rows) gap (suc i) d lt h = gap_at part n k rows gap.1 i d (omega arith) h
 
 -- how a row stands to a level k, where levels below n are done and those between are empty
 pub data Stands (part : Row → Bool) (n k : ℕ) (r : Row) : Type 0 where
@@ -151,54 +160,88 @@ level-total part k (r ∷ rows) =
       | false ↦ (λ e. let h : cond (part r && eqb (rank_of r) k) r.left 0 ≡ 0 = grind (arith, nat_tests) in omega (arith, level-total part k rows, cons))
     ] refl
 
+-- the least of a list
+fold_le : (a : ℕ) (xs : List ℕ) → fold min a xs ≤ a
+fold_le a [] = omega arith
+fold_le a (x ∷ xs) = omega (arith, fold_le (min a x) xs)
+
+least-keeps : (P : ℕ → Type 0) (a : ℕ) (xs : List ℕ) → P a → All P xs → P (fold min a xs)
+least-keeps P a [] pa all = pa
+least-keeps P a (x ∷ xs) pa all =
+    let both : P (min a x) = elim (cases_lt a x) [
+      | inl lt ↦ subst P (sym (min-eq_left (omega arith))) pa
+      | inr le ↦ subst P (sym (min-eq_right le)) (All-head P x xs all)
+    ] in
+    least-keeps P (min a x) xs both (All-tail P x xs all)
+
+reduce-keeps : (P : ℕ → Type 0) (xs : List ℕ) (k : ℕ) → All P xs → Some k ≡ reduce min xs → P k
+reduce-keeps P [] k all e = absurd (cc)
+reduce-keeps P (x ∷ xs) k all e = let same : fold min x xs ≡ k = cc in subst P same (least-keeps P x xs (All-head P x xs all) (All-tail P x xs all))
+
+reduce-or : (top : ℕ) (xs : List ℕ) → All (λ x. x < top) xs → fold min top xs ≡ unwrap_or (reduce min xs) top
+reduce-or top [] all = refl
+reduce-or top (x ∷ xs) all =
+    let lt : x < top = All-head (λ y. y < top) x xs all in
+    ap (λ (a : ℕ). fold min a xs) (min-eq_right (omega arith))
+
 -- the next level
-pub next_le : (part : Row → Bool) (n top : ℕ) (rows : List Row) → next_rank part n top rows ≤ top
-next_le part n top [] = omega arith
-next_le part n top (r ∷ rows) =
-    let t : cond (stands_below part top r) (cond (ltb (rank_of r) n) top (rank_of r)) top ≤ top = grind (arith, nat_tests) in
-    omega (arith, next_le part n (cond (stands_below part top r) (cond (ltb (rank_of r) n) top (rank_of r)) top) rows)
+module _ (part : Row → Bool) (n top : ℕ) where
+  -- the ranks from n on, better than top, at which the rows stand
+  abbrev ranks : List Row → List ℕ
+  ranks rows = filter (λ k. leb n k && ltb k top) (map rank_of (filter (λ (r : Row). part r && ltb 0 r.left) rows))
 
-pub next-from : (part : Row → Bool) (n top : ℕ) (rows : List Row) → n ≤ top → n ≤ next_rank part n top rows
-next-from part n top [] le = le
-next-from part n top (r ∷ rows) le = next-from part n (cond (stands_below part top r) (cond (ltb (rank_of r) n) top (rank_of r)) top) rows (grind (arith, nat_tests))
+  -- a row that stands at one, and a row that does not
+  data Head (r : Row) (rows : List Row) : Type 0 where
+    on : stands_at part (rank_of r) r ≡ true → n ≤ rank_of r → rank_of r < top → ranks (r ∷ rows) ≡ rank_of r ∷ ranks rows → Head r rows
+    off : (stands_below part top r ≡ true → rank_of r < n) → ranks (r ∷ rows) ≡ ranks rows → Head r rows
 
-pub next-gap : (part : Row → Bool) (n top : ℕ) (rows : List Row) → Gap part n (next_rank part n top rows) rows
-next-gap part n top [] = tt
-next-gap part n top (r ∷ rows) =
-    let top' = cond (stands_below part top r) (cond (ltb (rank_of r) n) top (rank_of r)) top in
-    let le : next_rank part n (cond (stands_below part top r) (cond (ltb (rank_of r) n) top (rank_of r)) top) rows ≤ cond (stands_below part top r) (cond (ltb (rank_of r) n) top (rank_of r)) top = next_le part n top' rows in
-    ((λ t. grind (arith, nat_tests)), next-gap part n top' rows)
-
-gap_at : (part : Row → Bool) (n k : ℕ) (rows : List Row) → Gap part n k rows → (i : ℕ) (d : Row) → i < length rows → stands_below part k (get_or rows i d) ≡ true → rank_of (get_or rows i d) < n
-gap_at part n k [] gap i d lt h = absurd (omega arith)
-gap_at part n k (r ∷ rows) gap zero d lt h = gap.0 h
-gap_at part n k (r ∷ rows) gap (suc i) d lt h = gap_at part n k rows gap.1 i d (omega arith) h
-
-next_one : (part : Row → Bool) (n top : ℕ) (rows : List Row) → (next_rank part n top rows ≡ top) ⊎ ((i : ℕ) × (i < length rows) × ((d : Row) → stands_at part (next_rank part n top rows) (get_or rows i d) ≡ true))
-next_one part n top [] = inl refl
-next_one part n top (r ∷ rows) =
-    let t = cond (stands_below part top r) (cond (ltb (rank_of r) n) top (rank_of r)) top in
-    elim (next_one part n t rows) [
-      | inl e ↦ elim (cases_Bool (stands_below part top r)) [
-        | inl on ↦ elim (cases_Bool (ltb (rank_of r) n)) [
-          | inl early ↦ inl (e ∙ cond-true (stands_below part top r) _ _ on ∙ cond-true (ltb (rank_of r) n) _ _ early)
-          | inr late ↦
-              let k : next_rank part n t rows ≡ rank_of r = e ∙ cond-true (stands_below part top r) _ _ on ∙ cond-false (ltb (rank_of r) n) _ _ late in
-              let here : stands_at part (rank_of r) r ≡ true = grind (arith, nat_tests) in
-              inr (0, omega arith, λ d. ap (λ (x : ℕ). stands_at part x r) k ∙ here)
-        ]
-        | inr off ↦ inl (e ∙ cond-false (stands_below part top r) _ _ off)
+  head : (r : Row) (rows : List Row) → Head r rows
+  head r rows =
+      let with_left = filter (λ (x : Row). part x && ltb 0 x.left) rows in
+      let G : List Row → List ℕ = λ xs. filter (λ k. leb n k && ltb k top) (map rank_of xs) in
+      elim (cases_Bool (part r && ltb 0 r.left)) [
+        | inl t ↦
+            let e : ranks (r ∷ rows) ≡ G (r ∷ with_left) = ap G (cond-true (part r && ltb 0 r.left) (r ∷ with_left) with_left t) in
+            elim (cases_Bool (leb n (rank_of r) && ltb (rank_of r) top)) [
+              | inl h ↦ on (grind (arith, nat_tests)) (grind (arith, nat_tests)) (grind (arith, nat_tests)) (e ∙ cond-true (leb n (rank_of r) && ltb (rank_of r) top) (rank_of r ∷ ranks rows) (ranks rows) h)
+              | inr h ↦ off (λ s. grind (arith, nat_tests)) (e ∙ cond-false (leb n (rank_of r) && ltb (rank_of r) top) (rank_of r ∷ ranks rows) (ranks rows) h)
+            ]
+        | inr t ↦ off (λ s. grind (arith, nat_tests)) (ap G (cond-false (part r && ltb 0 r.left) (r ∷ with_left) with_left t))
       ]
-      | inr w ↦ inr (suc w.0, omega (arith, w.1), λ d. w.2 d)
-    ]
 
-pub next-tells : (part : Row → Bool) (n top : ℕ) (rows : List Row) (k : ℕ) → k ≡ next_rank part n top rows → NextRank part n top rows k
-next-tells part n top rows k e =
-    subst (λ (x : ℕ). NextRank part n top rows x) (sym e) (record {
-      within = next_le part n top rows;
-      between = gap_at part n (next_rank part n top rows) rows (next-gap part n top rows);
-      stands = λ lt. elim (next_one part n top rows) [ inl same ↦ absurd (omega arith) | inr w ↦ w ];
-    })
+  gap-least : (a : ℕ) (rows : List Row) → a ≤ top → Gap part n (fold min a (ranks rows)) rows
+  gap-least a [] le = tt
+  gap-least a (r ∷ rows) le = elim (head r rows) [
+    | on s ge lt e ↦
+        let least = fold_le (min a (rank_of r)) (ranks rows) in
+        subst (λ (xs : List ℕ). Gap part n (fold min a xs) (r ∷ rows)) (sym e) ((λ t. grind (arith, nat_tests)), gap-least (min a (rank_of r)) rows (omega arith))
+    | off out e ↦
+        let least = fold_le a (ranks rows) in
+        subst (λ (xs : List ℕ). Gap part n (fold min a xs) (r ∷ rows)) (sym e) ((λ t. out (grind (arith, nat_tests))), gap-least a rows le)
+  ]
+
+  abbrev Found : List Row → ℕ → Type 0
+  Found rows k = (n ≤ k) × (k < top) × ((i : ℕ) × (i < length rows) × ((d : Row) → stands_at part k (get_or rows i d) ≡ true))
+
+  each-found : (rows : List Row) → All (Found rows) (ranks rows)
+  each-found [] = All-nil (Found [])
+  each-found (r ∷ rows) =
+      let more = All-weaker (Found rows) (Found (r ∷ rows)) (λ k f. (f.0, f.1, (suc f.2.0, omega (arith, f.2.1), λ d. f.2.2 d))) (ranks rows) (each-found rows) in
+      elim (head r rows) [
+        | on s ge lt e ↦ All-same (Found (r ∷ rows)) _ _ e (All-cons (Found (r ∷ rows)) (rank_of r) (ranks rows) (ge, lt, (0, omega arith, λ d. s)) more)
+        | off out e ↦ All-same (Found (r ∷ rows)) _ _ e more
+      ]
+
+  pub next-gap : (rows : List Row) (o : Option ℕ) → o ≡ next_rank part n top rows → Gap part n (unwrap_or o top) rows
+  next-gap rows o e =
+      let all = All-weaker (Found rows) (λ x. x < top) (λ k f. f.1) (ranks rows) (each-found rows) in
+      subst (λ (k : ℕ). Gap part n k rows) (reduce-or top (ranks rows) all ∙ ap (λ p. unwrap_or p top) (sym e)) (gap-least top rows (omega arith))
+
+  pub next-tells : (rows : List Row) (o : Option ℕ) → o ≡ next_rank part n top rows → NextRank part n top rows o
+  next-tells rows None e = gap_at part n top rows (next-gap rows None e)
+  next-tells rows (Some k) e =
+      let found = reduce-keeps (Found rows) (ranks rows) k (each-found rows) e in
+      record { least = found.0; within = found.1; between = gap_at part n k rows (next-gap rows (Some k) e); stands = found.2 }
 
 -- row by row
 pub dealt-at : (part : Row → Bool) (change : ℕ → Row → Row) (shares : ℕ → List ℕ) (n : ℕ) (ahead rows : List Row) (i : ℕ) (d : Row) → i < length rows

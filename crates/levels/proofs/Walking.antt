@@ -1,5 +1,5 @@
 -- The turns of loops over the rows of a level, and from level to level.
-use Rattle.std.proofs.Common.{◌≡◌, ℕ, ◌+◌, ◌<◌, ◌≤◌, Bool, true, false, cond, List, [], ◌∷◌, ◌++◌, length, get_or, take, drop, sym, refl, ap, ◌∙◌, subst, arith}
+use Rattle.std.proofs.Common.{◌≡◌, ℕ, Some, None, ◌+◌, ◌<◌, ◌≤◌, Bool, true, false, cond, List, [], ◌∷◌, ◌++◌, length, get_or, take, drop, sym, refl, ap, ◌∙◌, subst, arith}
 use Rattle.std.proofs.lemmas.Bool.{cond-true, cond-false}
 use Rattle.std.proofs.lemmas.List.{take_more, at_drop_more, append-nil}
 use Rattle.sharing.specs.declared.level.Holding.{Holding}
@@ -7,9 +7,9 @@ use Rattle.book.specs.declared.row.Row.{Row}
 use Rattle.book.specs.Ranks.{rank_of, below}
 use Rattle.book.specs.Rewrites.{changed_at}
 use Rattle.book.proofs.RewriteFacts.{changed-step, passed-step}
-use Rattle.levels.specs.Levels.{stands_at, holding_of, level_at, next_rank}
+use Rattle.levels.specs.Levels.{stands_at, holding_of, level_at, next_rank, BestFrom}
 use Rattle.levels.specs.Deals.{deal, dealt}
-use Rattle.levels.proofs.Dealing.{Gap, gap-refl, dealt-more, dealt-none, dealt-skip, gap-kept, below-skip, next_le, next-from, next-gap}
+use Rattle.levels.proofs.Dealing.{Gap, gap-refl, dealt-more, dealt-none, dealt-skip, gap-kept, below-skip, next-gap, next-tells}
 
 -- a row read through a copy of the rows
 pub stands_read : (part : Row → Bool) (k i : ℕ) (d : Row) (seen rows : List Row) (b : Bool) → seen ≡ rows → stands_at part k (get_or seen i d) ≡ b → stands_at part k (get_or rows i d) ≡ b
@@ -63,35 +63,32 @@ module _ (part : Row → Bool) (k : ℕ) (rows : List Row) (i : ℕ) (d : Row) (
         ∙ ap (λ (xs : List Row). take i rows ++ xs) (sym (deal-here ∙ cond-false (stands_at part k (get_or rows i d)) _ _ h))
 
 -- from level to level
-module _ (part : Row → Bool) (change : ℕ → Row → Row) (keeps : (g : ℕ) (r : Row) → rank_of (change g r) ≡ rank_of r) (shares : ℕ → List ℕ) (start : List Row) (upto : ℕ) where
-  pub record Walked (from : ℕ) (rows : List Row) (k : ℕ) : Type 0 where
-    pub most : k ≤ upto
-    pub least : from ≤ k
+module _ (part : Row → Bool) (change : ℕ → Row → Row) (keeps : (g : ℕ) (r : Row) → rank_of (change g r) ≡ rank_of r) (shares : ℕ → List ℕ) (start : List Row) where
+  -- levels better than n are dealt out, and those from there to k are empty
+  pub record Skipped (n : ℕ) (rows : List Row) (k : ℕ) : Type 0 where
     pub rows_are : rows ≡ dealt part change shares k [] start
-    pub sums : below part k start ≡ below part from start
+    pub sums : below part k start ≡ below part n start
 
-  pub first : (k : ℕ) → k ≡ next_rank part 0 upto start → Walked 0 start k
-  first k e =
-      let K = next_rank part 0 upto start in
-      let gap = next-gap part 0 upto start in
-      record {
-        most = omega (arith, next_le part 0 upto start);
-        least = omega arith;
-        rows_are = sym (dealt-none part change keeps shares [] start) ∙ dealt-skip part change keeps shares 0 K (omega arith) [] start gap ∙ ap (λ (x : ℕ). dealt part change shares x [] start) (sym e);
-        sums = ap (λ (x : ℕ). below part x start) e ∙ below-skip part 0 K (omega arith) start gap;
-      }
+  skip : (n k : ℕ) (rows : List Row) → n ≤ k → rows ≡ dealt part change shares n [] start → Gap part n k rows → Skipped n rows k
+  skip n k rows le er gap =
+      let kept : Gap part n k start = gap-kept part change keeps shares n k [] start (subst (λ (xs : List Row). Gap part n k xs) er gap) in
+      record { rows_are = er ∙ dealt-skip part change keeps shares n k le [] start kept; sums = below-skip part n k le start kept }
 
-  pub advance : (k : ℕ) (rows after : List Row) (k' : ℕ) → k < upto → rows ≡ dealt part change shares k [] start → after ≡ deal part change k (shares k) 0 rows → k' ≡ next_rank part (k + 1) upto after → Walked (k + 1) after k'
-  advance k rows after k' lt er ea ek =
-      let gap_here = gap-refl part k start in
-      let done : after ≡ dealt part change shares (k + 1) [] start = ea ∙ ap (deal part change k (shares k) 0) er ∙ dealt-more part change keeps shares k k (omega arith) [] start gap_here in
-      let K = next_rank part (k + 1) upto after in
-      let ge : k + 1 ≤ K = next-from part (k + 1) upto after (omega arith) in
-      let P : List Row → Type 0 = λ xs. Gap part (k + 1) K xs in
-      let gap : Gap part (k + 1) K start = gap-kept part change keeps shares (k + 1) K [] start (subst P done (next-gap part (k + 1) upto after)) in
-      record {
-        most = omega (arith, next_le part (k + 1) upto after);
-        least = omega arith;
-        rows_are = done ∙ dealt-skip part change keeps shares (k + 1) K ge [] start gap ∙ ap (λ (x : ℕ). dealt part change shares x [] start) (sym ek);
-        sums = ap (λ (x : ℕ). below part x start) ek ∙ below-skip part (k + 1) K ge start gap;
-      }
+  pub begun : start ≡ dealt part change shares 0 [] start
+  begun = sym (dealt-none part change keeps shares [] start)
+
+  pub record Reached (n top : ℕ) (rows : List Row) (k : ℕ) : Type 0 where
+    pub least : n ≤ k
+    pub within : k < top
+    pub skipped : Skipped n rows k
+
+  pub reach : (n top k : ℕ) (rows : List Row) → rows ≡ dealt part change shares n [] start → Some k ≡ next_rank part n top rows → Reached n top rows k
+  reach n top k rows er ek =
+      let best : BestFrom part n top rows k = next-tells part n top rows (Some k) ek in
+      record { least = best.least; within = best.within; skipped = skip n k rows best.least er (next-gap part n top rows (Some k) ek) }
+
+  pub advance : (k : ℕ) (rows after : List Row) → rows ≡ dealt part change shares k [] start → after ≡ deal part change k (shares k) 0 rows → after ≡ dealt part change shares (k + 1) [] start
+  advance k rows after er ea = ea ∙ ap (deal part change k (shares k) 0) er ∙ dealt-more part change keeps shares k k (omega arith) [] start (gap-refl part k start)
+
+  pub ended : (n top : ℕ) (rows : List Row) → n ≤ top → rows ≡ dealt part change shares n [] start → None ≡ next_rank part n top rows → Skipped n rows top
+  ended n top rows le er en = skip n top rows le er (next-gap part n top rows None en)

@@ -1,8 +1,9 @@
 -- A send takes levels in their order: best price first, the earlier among equals. Each level is looked at at a price of its own.
-use Rattle.std.proofs.Common.{◌≡◌, ℕ, zero, suc, ◌+◌, ◌-◌, ◌<◌, ◌≤◌, Bool, true, false, cond, ltb, List, [], ◌∷◌, length, get_or, take, set, Some, None, sym, refl, ap, ◌∙◌, inl, inr, arith}
+use Rattle.std.proofs.Common.{◌≡◌, ℕ, zero, suc, ◌+◌, ◌-◌, ◌<◌, ◌≤◌, Bool, true, false, cond, ltb, List, [], ◌∷◌, length, get_or, take, set, Some, None, Option, sym, refl, ap, ◌∙◌, inl, inr, arith}
 use Rattle.std.proofs.lemmas.Bool.Decides.{nat_tests}
 use Rattle.std.proofs.lemmas.Bool.{cond-true, cond-false, cond_both, cases_Bool, cases_lt, and_parts, and_cases}
 use Rattle.std.proofs.lemmas.List.Sums.{sum_by-cons}
+use Rattle.std.specs.Option.{option_map}
 use Rattle.interest.specs.Sides.{opposite, same_side}
 use Rattle.interest.specs.declared.Side.{Side}
 use Rattle.interest.specs.declared.Side.TheVariants.{Buy, Sell}
@@ -173,7 +174,7 @@ none_ahead d ls k u =
     ])
 
 -- so its price is the best
-pub some-best-of : (d : Side) (ls : List DepthLevel) (k : ℕ) → Foremost d ls (length ls) (Some k) → Some (get_or ls k blank).price ≡ best_of d (levels_show d ls)
+some-best-of : (d : Side) (ls : List DepthLevel) (k : ℕ) → Foremost d ls (length ls) (Some k) → Some (get_or ls k blank).price ≡ best_of d (levels_show d ls)
 some-best-of d ls k u =
     let l = get_or ls k blank in
     let h = bounds l.price l.size (and_parts (same_side d l.side) (in_bounds l.price l.size) u.1).1 in
@@ -187,8 +188,10 @@ some-best-of d ls k u =
 pub nothing-shown : (d : Side) (ls : List DepthLevel) → Foremost d ls (length ls) None → (p : ℕ) → levels_show d ls p ≡ 0
 nothing-shown d ls u p = sym (placed-const d p ls) ∙ placed-zero d (λ _. p) ls (λ j h. fallen-shows d (get_or ls j blank) p (u j h))
 
-pub none-best-of : (d : Side) (ls : List DepthLevel) → Foremost d ls (length ls) None → None ≡ best_of d (levels_show d ls)
-none-best-of d ls u = best-is d (levels_show d ls) None (λ p a b. nothing-shown d ls u p)
+-- the price of the foremost level, if there is one, is the best
+pub best-of-foremost : (d : Side) (ls : List DepthLevel) (o r : Option ℕ) → Foremost d ls (length ls) o → r ≡ option_map (λ k. (get_or ls k blank).price) o → r ≡ best_of d (levels_show d ls)
+best-of-foremost d ls None r u e = e ∙ best-is d (levels_show d ls) None (λ p a b. nothing-shown d ls u p)
+best-of-foremost d ls (Some k) r u e = e ∙ some-best-of d ls k u
 
 -- taking from the foremost level lessens whatever goes before any place by as much
 module _ (d : Side) (cur : List DepthLevel) (k m : ℕ) (u : Foremost d cur (length cur) (Some k)) (most : m ≤ (get_or cur k blank).size) where

@@ -33,6 +33,13 @@ beyond Sell = 0
 abbrev pub counted : (ℕ → ℕ) → ℕ → ℕ → ℕ
 counted count p n = cond (priced p) (min n (count p)) 0
 
+-- at each price the counts after are m less than those before
+abbrev pub TakenFrom : (ℕ → ℕ) → ℕ → (ℕ → ℕ) → Type 0
+TakenFrom before m after = (p : ℕ) → after p ≡ before p - m
+
+abbrev pub SameCounts : (ℕ → ℕ) → (ℕ → ℕ) → Type 0
+SameCounts before after = (p : ℕ) → after p ≡ before p
+
 -- the best price at which the count is 1 or more
 unfoldable pub best_of : Side → (ℕ → ℕ) → Option ℕ
 best_of Buy count = greatest_at_or_below (λ p. nat_lt 0 (count p)) 100000

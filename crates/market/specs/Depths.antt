@@ -1,5 +1,5 @@
 -- What the levels of a table show: the laws, and one level more.
-use Rattle.std.specs.Prelude.{◌≡◌, ℕ, ◌+◌, ◌-◌, ◌<◌, ◌≤◌, min, List, [], ◌∷◌, ◌++◌, length, take, drop, slice_index_or, refl}
+use Rattle.std.specs.Prelude.{◌≡◌, ℕ, ◌+◌, ◌<◌, ◌≤◌, min, List, [], ◌∷◌, ◌++◌, length, take, drop, slice_index_or, refl}
 use Rattle.std.proofs.Common.{sym, ap, ◌∙◌, inl, inr, arith}
 use Rattle.std.proofs.lemmas.Bool.Decides.{nat_tests}
 use Rattle.std.proofs.lemmas.Bool.{cond-true, cond-false, cond_both, cases_Bool, cases_lt}
@@ -48,11 +48,11 @@ levels-edge d [] = refl
 levels-edge d (l ∷ ls) = omega (arith, sum_by-cons (λ x. level_shows d x (beyond d)) l ls, level-edge d l, levels-edge d ls)
 
 -- the first levels, as the code cuts them off
-pub cut : (ls : List DepthLevel) (n top : ℕ) → top ≡ min (length ls) n → take (top - 0) ls ≡ take n ls
+pub cut : (ls : List DepthLevel) (n top : ℕ) → top ≡ min (length ls) n → take top ls ≡ take n ls
 cut ls n top e =
     elim (cases_lt n (length ls)) [
-      | inl h ↦ ap (λ (k : ℕ). take k ls) (let w : top - 0 ≡ n = omega arith in w)
-      | inr h ↦ take_all (top - 0) ls (omega arith) ∙ sym (take_all n ls h)
+      | inl h ↦ ap (λ (k : ℕ). take k ls) (let w : top ≡ n = omega arith in w)
+      | inr h ↦ take_all top ls (omega arith) ∙ sym (take_all n ls h)
     ]
 
 -- and as they stand in the whole after a write

@@ -1,8 +1,7 @@
 //! A depth table in the caller's memory.
-ghost use Rattle.std.specs.Prelude.{◌≡◌, ℕ, ◌-◌, ◌≤◌, List, length, take};
+ghost use Rattle.std.specs.Prelude.{◌≡◌, ℕ, ◌-◌, ◌≤◌, length, take};
 ghost use Rattle.interest.specs.Sides.{opposite};
-ghost use Rattle.market.specs.Counts.{counted, best_of};
-ghost use Rattle.market.specs.declared.depth.DepthLevel.{DepthLevel};
+ghost use Rattle.market.specs.Counts.{counted, TakenFrom, SameCounts, best_of};
 ghost use Rattle.market.specs.Levels.{level_stands, level_shows, levels_show, Foremost, Sent, TableSent};
 ghost use Rattle.market.specs.Depths.{levels-mono, levels-edge};
 
@@ -21,29 +20,31 @@ pub struct DepthLevel {
     pub size: u32,
 }
 
-impl DepthLevel {
-    fn entry(&self) -> Entry
-        ensures { (result.price ≡ self.now.price) × (result.size ≡ self.now.size) }
-    {
+impl From<DepthLevel> for Entry {
+    ghost from_gives = { λ level entry. (entry.price ≡ level.price) × (entry.size ≡ level.size) };
+
+    fn from(level: DepthLevel) -> Entry {
         Entry {
-            price: self.price,
-            size: self.size,
+            price: level.price,
+            size: level.size,
         }
     }
+}
 
+impl DepthLevel {
     /// Whether the level shows contracts on a side.
     pub fn stands_on(&self, side: Side) -> bool
         ensures { result ≡ level_stands side self.now }
     {
-        side.is(self.side) && self.entry().stands()
+        side == self.side && Entry::from(*self).stands()
     }
 
     /// The smaller of `n` and what the level shows on a side at a price; 0 out of bounds.
     pub fn count(&self, side: Side, price: u32, n: u32) -> u32
         ensures { result ≡ counted (level_shows side self.now) price n }
     {
-        if side.is(self.side) {
-            self.entry().count(side, price, n)
+        if side == self.side {
+            Entry::from(*self).count(side, price, n)
         } else {
             0
         }
@@ -54,17 +55,11 @@ impl DepthLevel {
 fn foremost(levels: &[DepthLevel], side: Side) -> Option<usize>
     ensures { Foremost side levels.now (length levels.now) result }
 {
-    let mut first = None;
-    for at in 0..levels.len() {
-        if levels[at].stands_on(side) {
-            match first {
-                Some(k) => {
-                    if !reached(side, levels[k].price, levels[at].price) {
-                        first = Some(at);
-                    }
-                }
-                None => first = Some(at),
-            }
+    let mut first: Option<usize> = None;
+    for (at, level) in levels.iter().enumerate() {
+        let is_better = first.is_none_or(|k| !reached(side, levels[k].price, level.price));
+        if is_better && level.stands_on(side) {
+            first = Some(at);
         }
     }
     first
@@ -74,10 +69,7 @@ fn foremost(levels: &[DepthLevel], side: Side) -> Option<usize>
 fn best_of(levels: &[DepthLevel], side: Side) -> Option<u32>
     ensures { result ≡ best_of side (levels_show side levels.now) }
 {
-    match foremost(levels, side) {
-        Some(at) => Some(levels[at].price),
-        None => None,
-    }
+    foremost(levels, side).map(|at| levels[at].price)
 }
 
 /// The smaller of `n` and what the levels show at a price.
@@ -91,98 +83,66 @@ fn count_of(levels: &[DepthLevel], side: Side, price: u32, n: u32) -> u32
     total
 }
 
-/// Takes up to `n` of what the levels show at a price, the foremost level first.
+/// Takes up to `n` of what the levels of a table that count show at a price, the foremost level first.
 fn send_of(levels: &mut [DepthLevel], side: Side, price: u32, n: u32) -> u32
-    ensures answer { result ≡ counted (levels_show side levels.old) price n }
-    ensures taken { (p : ℕ) → levels_show side levels.new p ≡ levels_show side levels.old p - result }
-    ensures stays { (p : ℕ) → levels_show (opposite side) levels.new p ≡ levels_show (opposite side) levels.old p }
-    ensures levels { Sent side price n levels.old levels.new }
+    ensures answer { result ≡ counted (levels_show side (take 64 levels.old)) price n }
+    ensures taken { TakenFrom (levels_show side (take 64 levels.old)) result (levels_show side (take 64 levels.new)) }
+    ensures stays { SameCounts (levels_show (opposite side) (take 64 levels.old)) (levels_show (opposite side) (take 64 levels.new)) }
+    ensures table { TableSent side price n levels.old levels.new }
 {
     if !is_price(price) {
         return 0;
     }
+    let top = levels.len().min(LEVELS);
+    let counting = &mut levels[..top];
     let mut left = n;
-    while left > 0 {
-        match foremost(levels, side) {
-            Some(at) if reached(side, levels[at].price, price) => {
-                let m = left.min(levels[at].size);
-                levels[at].size -= m;
-                left -= m;
-            }
-            _ => break,
-        }
+    while left > 0
+        && let Some(at) = foremost(counting, side)
+        && reached(side, counting[at].price, price)
+    {
+        let m = left.min(counting[at].size);
+        counting[at].size -= m;
+        left -= m;
     }
     n - left
 }
 
-/// A table of levels, of which the first `LEVELS` count; the memory stays the caller's.
-/// It has no laws, since a trait with laws cannot be had for a slice: those of a market are `DepthTable`'s.
-pub trait Table {
-    /// All levels of the table, those past the 64th too.
-    ghost levels: { Self → List DepthLevel };
-
-    fn best_level(&self, side: Side) -> Option<u32>
-        ensures { result ≡ best_of side (levels_show side (take 64 (levels self.now))) };
-
-    fn count_levels(&self, side: Side, price: u32, n: u32) -> u32
-        ensures { result ≡ counted (levels_show side (take 64 (levels self.now))) price n };
-
-    fn send_levels(&mut self, side: Side, price: u32, n: u32) -> u32
-        ensures answer { result ≡ counted (levels_show side (take 64 (levels self.old))) price n }
-        ensures taken { (p : ℕ) → levels_show side (take 64 (levels self.new)) p ≡ levels_show side (take 64 (levels self.old)) p - result }
-        ensures stays { (p : ℕ) → levels_show (opposite side) (take 64 (levels self.new)) p ≡ levels_show (opposite side) (take 64 (levels self.old)) p }
-        ensures table { TableSent side price n (levels self.old) (levels self.new) };
-}
-
-impl Table for &mut [DepthLevel] {
-    ghost levels = { λ s. s.now };
-
-    fn best_level(&self, side: Side) -> Option<u32> {
-        let top = self.len().min(LEVELS);
-        best_of(&self[0..top], side)
-    }
-
-    fn count_levels(&self, side: Side, price: u32, n: u32) -> u32 {
-        let top = self.len().min(LEVELS);
-        count_of(&self[0..top], side, price, n)
-    }
-
-    fn send_levels(&mut self, side: Side, price: u32, n: u32) -> u32 {
-        let top = self.len().min(LEVELS);
-        send_of(&mut self[0..top], side, price, n)
-    }
-}
-
-/// A market whose contracts are the levels of a table.
+/// A market whose contracts are the first `LEVELS` levels of a table; the memory stays the caller's.
 #[derive(Drop)]
-pub struct DepthTable<T> {
-    pub table: T,
+pub struct DepthTable<'a> {
+    pub levels: &'a mut [DepthLevel],
 }
 
-impl<T: Table> ShownMarket for DepthTable<T> {
-    ghost shown = { λ s d p. levels_show d (take 64 (T.Table.levels s.table)) p };
+impl DepthTable<'_> {
+    /// The levels that count.
+    fn counting(&self) -> &[DepthLevel]
+        ensures { result.now ≡ take 64 self.now.levels.now }
+    {
+        let top = self.levels.len().min(LEVELS);
+        &self.levels[..top]
+    }
+}
 
-    ghost worsens = { λ s d p q h. levels-mono d (take 64 (T.Table.levels s.table)) p q h };
+impl ShownMarket for DepthTable<'_> {
+    ghost shown = { λ s d p. levels_show d (take 64 s.levels.now) p };
 
-    ghost edge = { λ s d. levels-edge d (take 64 (T.Table.levels s.table)) };
+    ghost worsens = { λ s d p q h. levels-mono d (take 64 s.levels.now) p q h };
+
+    ghost edge = { λ s d. levels-edge d (take 64 s.levels.now) };
 
     fn best(&self, side: Side) -> Option<u32> {
-        self.table.best_level(side)
+        best_of(self.counting(), side)
     }
 
     fn count(&self, side: Side, price: u32, n: u32) -> u32 {
-        self.table.count_levels(side, price, n)
+        count_of(self.counting(), side, price, n)
     }
 }
 
-impl<T: Table> Market for DepthTable<T> {
-    fn send(&mut self, side: Side, price: u32, n: u32) -> u32
-        ensures answer { result ≡ counted (levels_show side (take 64 (T.Table.levels self.old.table))) price n }
-        ensures few { result ≤ n }
-        ensures taken { (p : ℕ) → levels_show side (take 64 (T.Table.levels self.new.table)) p ≡ levels_show side (take 64 (T.Table.levels self.old.table)) p - result }
-        ensures stays { (p : ℕ) → levels_show (opposite side) (take 64 (T.Table.levels self.new.table)) p ≡ levels_show (opposite side) (take 64 (T.Table.levels self.old.table)) p }
-        ensures table { TableSent side price n (T.Table.levels self.old.table) (T.Table.levels self.new.table) }
-    {
-        self.table.send_levels(side, price, n)
+impl Market for DepthTable<'_> {
+    ghost leaves = { λ d p n _ s t. TableSent d p n s.levels.now t.levels.now };
+
+    fn send(&mut self, side: Side, price: u32, n: u32) -> u32 {
+        send_of(self.levels, side, price, n)
     }
 }

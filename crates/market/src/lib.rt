@@ -2,10 +2,10 @@
 //! Bids are a market's buy side, offers its sell side.
 #![tactic(auto)]
 
-ghost use Rattle.std.specs.Prelude.{◌≡◌, ℕ, ◌-◌, ◌≤◌};
+ghost use Rattle.std.specs.Prelude.{◌≡◌, ℕ, ◌≤◌};
 ghost use Rattle.interest.specs.Sides.{opposite};
 ghost use Rattle.interest.specs.declared.Side.{Side};
-ghost use Rattle.market.specs.Counts.{AsGood, beyond, counted, best_of, Best, reaches, better_of};
+ghost use Rattle.market.specs.Counts.{AsGood, beyond, counted, TakenFrom, SameCounts, best_of, Best, reaches, better_of};
 
 use interest::Side;
 
@@ -39,12 +39,16 @@ pub trait ShownMarket {
 
 /// A shown market that can be sent to.
 pub trait Market: ShownMarket {
+    /// What else a send leaves, by the side, the price, what was asked and what was taken, and the market before and after.
+    ghost leaves: { Side → ℕ → ℕ → ℕ → Self → Self → Type 0 } = { λ _ _ _ _ _ _. Unit {0} };
+
     /// Takes up to `n` of the contracts shown at a price or better, the best first, and answers how many; none out of bounds.
     fn send(&mut self, side: Side, price: u32, n: u32) -> u32
         ensures answer { result ≡ counted (Self.ShownMarket.shown self.old side) price n }
         ensures few { result ≤ n }
-        ensures taken { (p : ℕ) → Self.ShownMarket.shown self.new side p ≡ Self.ShownMarket.shown self.old side p - result }
-        ensures stays { (p : ℕ) → Self.ShownMarket.shown self.new (opposite side) p ≡ Self.ShownMarket.shown self.old (opposite side) p };
+        ensures taken { TakenFrom (Self.ShownMarket.shown self.old side) result (Self.ShownMarket.shown self.new side) }
+        ensures stays { SameCounts (Self.ShownMarket.shown self.old (opposite side)) (Self.ShownMarket.shown self.new (opposite side)) }
+        ensures left { leaves side price n result self.old self.new };
 }
 
 /// Whether a contract shown at one price can be had at another.
@@ -62,15 +66,7 @@ pub fn better(side: Side, a: Option<u32>, b: Option<u32>) -> Option<u32>
     ensures { result ≡ better_of side a b }
 {
     match (a, b) {
-        (Some(x), Some(y)) => {
-            if reached(side, x, y) {
-                Some(x)
-            } else {
-                Some(y)
-            }
-        }
-        (Some(x), None) => Some(x),
-        (None, Some(y)) => Some(y),
-        (None, None) => None,
+        (Some(x), Some(y)) => Some(if reached(side, x, y) { x } else { y }),
+        _ => a.or(b),
     }
 }

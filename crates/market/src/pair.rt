@@ -33,26 +33,20 @@ impl<A: ShownMarket, B: ShownMarket> ShownMarket for Pair<A, B> {
 }
 
 impl<A: Market, B: Market> Market for Pair<A, B> {
+    ghost leaves = { λ d _ _ m s t. Split d (A.ShownMarket.shown s.first d) (B.ShownMarket.shown s.second d) (A.ShownMarket.shown t.first d) (B.ShownMarket.shown t.second d) m };
+
     // Level by level, the best first; at each, the first market before the second.
-    fn send(&mut self, side: Side, price: u32, n: u32) -> u32
-        ensures answer { result ≡ counted (together (A.ShownMarket.shown self.old.first) (B.ShownMarket.shown self.old.second) side) price n }
-        ensures few { result ≤ n }
-        ensures taken { (p : ℕ) → together (A.ShownMarket.shown self.new.first) (B.ShownMarket.shown self.new.second) side p ≡ together (A.ShownMarket.shown self.old.first) (B.ShownMarket.shown self.old.second) side p - result }
-        ensures stays { (p : ℕ) → together (A.ShownMarket.shown self.new.first) (B.ShownMarket.shown self.new.second) (opposite side) p ≡ together (A.ShownMarket.shown self.old.first) (B.ShownMarket.shown self.old.second) (opposite side) p }
-        ensures split { Split side (A.ShownMarket.shown self.old.first side) (B.ShownMarket.shown self.old.second side) (A.ShownMarket.shown self.new.first side) (B.ShownMarket.shown self.new.second side) result }
-    {
+    fn send(&mut self, side: Side, price: u32, n: u32) -> u32 {
         if !is_price(price) {
             return 0;
         }
         let mut left = n;
-        while left > 0 {
-            match better(side, self.first.best(side), self.second.best(side)) {
-                Some(level) if reached(side, level, price) => {
-                    left -= self.first.send(side, level, left);
-                    left -= self.second.send(side, level, left);
-                }
-                _ => break,
-            }
+        while left > 0
+            && let Some(level) = self.best(side)
+            && reached(side, level, price)
+        {
+            left -= self.first.send(side, level, left);
+            left -= self.second.send(side, level, left);
         }
         n - left
     }

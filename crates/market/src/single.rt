@@ -43,7 +43,7 @@ pub struct SingleMarket {
 }
 
 impl SingleMarket {
-    /// The entry of a side.
+    /// The entry of a side. A match, and no map by side: callers make the value by the names of its fields.
     pub fn entry(&self, side: Side) -> Option<Entry>
         ensures { result ≡ entry_of self.now side }
     {
@@ -72,17 +72,11 @@ impl ShownMarket for SingleMarket {
     ghost edge = { Prim.search rules };
 
     fn best(&self, side: Side) -> Option<u32> {
-        match self.entry(side) {
-            Some(e) => { if e.stands() { Some(e.price) } else { None } }
-            None => None,
-        }
+        self.entry(side).filter(|e| e.stands()).map(|e| e.price)
     }
 
     fn count(&self, side: Side, price: u32, n: u32) -> u32 {
-        match self.entry(side) {
-            Some(e) => e.count(side, price, n),
-            None => 0,
-        }
+        self.entry(side).map_or(0, |e| e.count(side, price, n))
     }
 }
 
@@ -91,27 +85,21 @@ fn take(entry: &mut Option<Entry>, side: Side, price: u32, n: u32) -> u32
     ensures answer { result ≡ counted (entry_shows side entry.old) price n }
     ensures left { entry.new ≡ lessened entry.old result }
 {
-    match entry {
-        Some(e) => {
-            let sent = e.count(side, price, n);
-            e.size -= sent;
-            sent
-        }
-        None => 0,
-    }
+    let Some(e) = entry else {
+        return 0;
+    };
+    let sent = e.count(side, price, n);
+    e.size -= sent;
+    sent
 }
 
 impl Market for SingleMarket {
-    fn send(&mut self, side: Side, price: u32, n: u32) -> u32
-        ensures answer { result ≡ counted (single_shown self.old side) price n }
-        ensures few { result ≤ n }
-        ensures taken { (p : ℕ) → single_shown self.new side p ≡ single_shown self.old side p - result }
-        ensures stays { (p : ℕ) → single_shown self.new (opposite side) p ≡ single_shown self.old (opposite side) p }
-        ensures left { self.new ≡ with_entry self.old side (lessened (entry_of self.old side) result) }
-    {
-        match side {
-            Side::Buy => take(&mut self.bid, side, price, n),
-            Side::Sell => take(&mut self.offer, side, price, n),
-        }
+    ghost leaves = { λ d _ _ m s t. t ≡ with_entry s d (lessened (entry_of s d) m) };
+
+    fn send(&mut self, side: Side, price: u32, n: u32) -> u32 {
+        let mut entry = self.entry(side);
+        let sent = take(&mut entry, side, price, n);
+        self.set(side, entry);
+        sent
     }
 }

@@ -38,14 +38,9 @@ impl<M: ShownMarket> ShownMarket for FirmSwitch<M> {
 }
 
 impl<M: Market> Market for FirmSwitch<M> {
-    fn send(&mut self, side: Side, price: u32, n: u32) -> u32
-        ensures answer { result ≡ counted (λ p. (if self.old.firm then M.ShownMarket.shown self.old.market side p else 0)) price n }
-        ensures few { result ≤ n }
-        ensures taken { (p : ℕ) → (if self.new.firm then M.ShownMarket.shown self.new.market side p else 0) ≡ (if self.old.firm then M.ShownMarket.shown self.old.market side p else 0) - result }
-        ensures stays { (p : ℕ) → (if self.new.firm then M.ShownMarket.shown self.new.market (opposite side) p else 0) ≡ (if self.old.firm then M.ShownMarket.shown self.old.market (opposite side) p else 0) }
-        ensures kept { self.new.firm ≡ self.old.firm }
-        ensures off { self.old.firm ≡ false → self.new ≡ self.old }
-    {
+    ghost leaves = { λ _ _ _ _ s t. (t.firm ≡ s.firm) × (s.firm ≡ false → t ≡ s) };
+
+    fn send(&mut self, side: Side, price: u32, n: u32) -> u32 {
         if !self.firm {
             return 0;
         }

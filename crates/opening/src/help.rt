@@ -3,6 +3,27 @@ use std::io;
 
 /// Prints the calls that are understood.
 pub(crate) fn print_help(rt: &HostRuntime) -> io::Result<()> {
+    print_auction_calls(rt)?;
+    print_inspection_calls(rt)
+}
+
+fn print_auction_calls(rt: &HostRuntime) -> io::Result<()> {
+    println!(rt; "make LADDER RULE CLOSE UNDERLYING WINDOW IMBALANCE ROUTE EXTRA")?;
+    println!(rt;
+        "                                                 make an auction, and empty the away market"
+    )?;
+    println!(rt; "enter NUMBER SIDE PRICE SIZE CLASS               enter an order")?;
+    println!(rt; "withdraw NUMBER                                  take an order back")?;
+    println!(rt; "quote MAKER BID BIDSIZE OFFER OFFERSIZE          give or replace a quote")?;
+    println!(rt; "pull MAKER                                       remove a quote")?;
+    println!(rt; "tick TIME UNDERLYING                             let the auction act")?;
+    println!(rt; "read order NUMBER | read quote MAKER SIDE        what became of a row")?;
+    println!(rt;
+        "show                                             the rows, the away market, the stage, and what a tick would find"
+    )
+}
+
+fn print_inspection_calls(rt: &HostRuntime) -> io::Result<()> {
     println!(rt;
         "share RULE QUANTITY CLASS SIZE [CLASS SIZE ..]   divide a quantity among the rows of a level"
     )?;

@@ -141,10 +141,10 @@ edge-shown : (f : ℕ → ℕ) (p n : ℕ) (x : Bool) → priced p ≡ x → (x 
 edge-shown f p n true e h = cond-true (priced p) _ _ e
 edge-shown f p n false e h = cond-false (priced p) _ _ e ∙ sym (omega (arith, h refl))
 
-pub offers-counted : (f : ℕ → ℕ) (p n : ℕ) → priced p ≡ true → f (beyond Sell) ≡ 0 → counted f (p - 1) n ≡ min n (f (p - 1))
+offers-counted : (f : ℕ → ℕ) (p n : ℕ) → priced p ≡ true → f (beyond Sell) ≡ 0 → counted f (p - 1) n ≡ min n (f (p - 1))
 offers-counted f p n e h = edge-shown f (p - 1) n (priced (p - 1)) refl (λ out. let z : p - 1 ≡ 0 = grind (arith, nat_tests) in ap f z ∙ h)
 
-pub bids-counted : (f : ℕ → ℕ) (p n : ℕ) → priced p ≡ true → f (beyond Buy) ≡ 0 → counted f (p + 1) n ≡ min n (f (p + 1))
+bids-counted : (f : ℕ → ℕ) (p n : ℕ) → priced p ≡ true → f (beyond Buy) ≡ 0 → counted f (p + 1) n ≡ min n (f (p + 1))
 bids-counted f p n e h = edge-shown f (p + 1) n (priced (p + 1)) refl (λ out. let z : p + 1 ≡ 100001 = grind (arith, nat_tests) in ap f z ∙ h)
 
 -- a count that stops at a number above the routable contracts decides as the count itself
@@ -152,8 +152,10 @@ allowed-capped : (mode : Mode) (n b r : ℕ) → r < n → allowed mode (min n b
 allowed-capped Exchange n b r h = grind (arith, nat_tests)
 allowed-capped Routing n b r h = grind (arith, nat_tests)
 
-pub figures-are : (o : Opening) (p : ℕ) (d : Depth) (bo bb x y v : ℕ) (u₁ u₂ : Bool) (rest : Unmatched) → d ≡ depth_of p o.rows → d.buys ≤ 128000000 → d.sells ≤ 128000000 → d.routable_buys ≤ d.buys → d.routable_sells ≤ d.sells → bo ≡ min 4294967295 (better_at o Buy p) → bb ≡ min 4294967295 (better_at o Sell p) → u₁ ≡ allowed o.mode bo d.routable_buys → u₂ ≡ allowed o.mode bb d.routable_sells → x ≡ d.buys - bo → y ≡ d.sells - bb → v ≡ min x y → rest ≡ unmatched_of x y → ◌≡◌ {A = Figures} (record { buys = d.buys; sells = d.sells; better_offers = bo; better_bids = bb; usable = u₁ && u₂; volume = v; unmatched = rest }) (figures_at o p)
-figures-are o p d bo bb x y v u₁ u₂ rest ed fb fs rb rs eo eb e₁ e₂ ex ey ev er =
+pub figures-are : (o : Opening) (p : ℕ) → priced p ≡ true → ((side : Side) → o.shown side (beyond side) ≡ 0) → (d : Depth) (bo bb x y v : ℕ) (u₁ u₂ u : Bool) (rest : Unmatched) → d ≡ depth_of p o.rows → d.buys ≤ 128000000 → d.sells ≤ 128000000 → d.routable_buys ≤ d.buys → d.routable_sells ≤ d.sells → bo ≡ counted (o.shown Sell) (p - 1) 4294967295 → bb ≡ counted (o.shown Buy) (p + 1) 4294967295 → u₁ ≡ allowed o.mode bo d.routable_buys → u₂ ≡ allowed o.mode bb d.routable_sells → u ≡ (u₁ && u₂) → x ≡ d.buys - bo → y ≡ d.sells - bb → v ≡ min x y → rest ≡ unmatched_of x y → ◌≡◌ {A = Figures} (record { buys = d.buys; sells = d.sells; better_offers = bo; better_bids = bb; usable = u; volume = v; unmatched = rest }) (figures_at o p)
+figures-are o p price edge d bo bb x y v u₁ u₂ u rest ed fb fs rb rs co cb e₁ e₂ eu ex ey ev er =
+    let eo : bo ≡ min 4294967295 (better_at o Buy p) = co ∙ offers-counted (o.shown Sell) p 4294967295 price (edge Sell) in
+    let eb : bb ≡ min 4294967295 (better_at o Sell p) = cb ∙ bids-counted (o.shown Buy) p 4294967295 price (edge Buy) in
     let buys = ap (λ (d : Depth). d.buys) ed in
     let sells = ap (λ (d : Depth). d.sells) ed in
     let rbuys = ap (λ (d : Depth). d.routable_buys) ed in
@@ -162,7 +164,7 @@ figures-are o p d bo bb x y v u₁ u₂ rest ed fb fs rb rs eo eb e₁ e₂ ex e
     let is₂ : u₂ ≡ allowed o.mode (better_at o Sell p) (routable_at Sell p o.rows) = e₂ ∙ ap₂ (allowed o.mode) eb rsells ∙ allowed-capped o.mode _ _ _ (omega (arith, rsells)) in
     let isx : x ≡ net_at o Buy p = omega (arith, buys) in
     let isy : y ≡ net_at o Sell p = omega (arith, sells) in
-    let usable-is : (u₁ && u₂) ≡ usable_at o p = ap₂ ◌&&◌ is₁ is₂ in
+    let usable-is : u ≡ usable_at o p = eu ∙ ap₂ ◌&&◌ is₁ is₂ in
     let volume-is : v ≡ volume_at o p = ev ∙ ap₂ min isx isy in
     let rest-is : rest ≡ unmatched_at o p = er ∙ ap₂ unmatched_of isx isy in
     λ j. record { buys = buys j; sells = sells j; better_offers = eo j; better_bids = eb j; usable = usable-is j; volume = volume-is j; unmatched = rest-is j }

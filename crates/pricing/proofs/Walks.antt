@@ -1,21 +1,24 @@
 -- What a walk has seen after n prices, and one price more.
 use Rattle.std.proofs.Common.{◌≡◌, ℕ, suc, ◌+◌, ◌-◌, ◌<◌, ◌≤◌, min, max, Bool, true, false, cond, ◌&&◌, eqb, ltb, leb, Some, None, Option, sym, refl, ap, ◌∙◌, subst, ap₂, inl, inr, arith}
-use Rattle.std.specs.Option.{option_map}
+use Rattle.std.specs.Option.{option_map, option_or}
 use Rattle.std.proofs.lemmas.Bool.{cases_lt, cases_Bool, and_left, and_right, and_from, ltb-true, ltb-false, leb-true, leb-false, eq-eqb, ne_eqb}
+use Rattle.interest.specs.declared.Side.{Side}
+use Rattle.interest.specs.declared.Side.TheVariants.{Buy, Sell}
 use Rattle.pricing.specs.declared.figures.Unmatched.{Unmatched}
 use Rattle.pricing.specs.declared.figures.Unmatched.TheVariants.{Nothing, Buys, Sells}
 use Rattle.pricing.specs.declared.search.Lead.{Lead}
 use Rattle.pricing.specs.declared.search.Tally.{Tally}
-use Rattle.pricing.specs.Prices.{Opening, usable_at, volume_at, unmatched_at, side_number, contracts_of, figures_at}
-use Rattle.pricing.specs.Scan.{or_else, greatest, lowest, highest}
+use Rattle.pricing.specs.Prices.{Opening, usable_at, volume_at, unmatched_at, side_of, same_left, contracts_of, figures_at}
+use Rattle.pricing.specs.Scan.{greatest, lowest, highest}
 use Rattle.pricing.specs.Choosing.{traded_at, leaves, settled, price_with, price_of}
+use Rattle.pricing.specs.Steps.{Steps}
 use Rattle.pricing.specs.Tallies.{lead_of, lead_at, fresh, joined, stepped, Tops, Seen, comes_to_by, comes_to}
 use Rattle.pricing.proofs.Scans.{greatest-bound, greatest-skip, lowest-skip, highest-skip, lowest-none, highest-none, lowest-miss, highest-miss, lowest-hit, highest-hit}
 
 seen_none : (permitted : ℕ → Bool) (o : Opening) (low : ℕ) → Seen permitted o low 0 (fresh 0)
 seen_none permitted o low = record { volume = refl; tops = λ h. record { first = refl; last = refl; buys = refl; sells = refl } }
 
-else-mapped : (f : ℕ → Lead) (x : Option ℕ) (y : ℕ) → or_else (option_map f x) (Some (f y)) ≡ option_map f (or_else x (Some y))
+else-mapped : (f : ℕ → Lead) (x : Option ℕ) (y : ℕ) → option_or (option_map f x) (Some (f y)) ≡ option_map f (option_or x (Some y))
 else-mapped f None y = refl
 else-mapped f (Some x) y = refl
 
@@ -26,60 +29,60 @@ joined-volume t p (Sells m) = refl
 
 module _ (permitted : ℕ → Bool) (o : Opening) (low n : ℕ) where
   -- a test for the volume v fails where the volume is another
-  off : (k v p : ℕ) → (traded_at permitted o p ≡ v → ⊥) → leaves permitted o k v p ≡ false
+  off : (k : Option Side) (v p : ℕ) → (traded_at permitted o p ≡ v → ⊥) → leaves permitted o k v p ≡ false
   off k v p h = and_left _ _ (ne_eqb _ v h)
 
   -- and where another side is left
-  other : (k v p : ℕ) (u : Unmatched) → unmatched_at o p ≡ u → eqb (side_number u) k ≡ false → leaves permitted o k v p ≡ false
-  other k v p u e h = and_right _ _ (ap (λ x. eqb (side_number x) k) e ∙ h)
+  other : (k : Option Side) (v p : ℕ) (u : Unmatched) → unmatched_at o p ≡ u → same_left (side_of u) k ≡ false → leaves permitted o k v p ≡ false
+  other k v p u e h = and_right _ _ (ap (λ x. same_left (side_of x) k) e ∙ h)
 
-  on : (k v p : ℕ) (u : Unmatched) → traded_at permitted o p ≡ v → unmatched_at o p ≡ u → eqb (side_number u) k ≡ true → leaves permitted o k v p ≡ true
-  on k v p u t e h = and_from _ _ (eq-eqb _ v t) (ap (λ x. eqb (side_number x) k) e ∙ h)
+  on : (k : Option Side) (v p : ℕ) (u : Unmatched) → traded_at permitted o p ≡ v → unmatched_at o p ≡ u → same_left (side_of u) k ≡ true → leaves permitted o k v p ≡ true
+  on k v p u t e h = and_from _ _ (eq-eqb _ v t) (ap (λ x. same_left (side_of x) k) e ∙ h)
 
   tops-fresh : (v : ℕ) → ((k : ℕ) → k < n → traded_at permitted o (low + k) < v) → Tops permitted o low n v (fresh v)
   tops-fresh v h =
       let ne : (k : ℕ) → k < n → traded_at permitted o (low + k) ≡ v → ⊥ = λ k l e. omega (arith, h k l, e) in
       record {
-        first = sym (lowest-none (leaves permitted o 0 v) low n (λ k l. off 0 v (low + k) (ne k l)));
-        last = sym (highest-none (leaves permitted o 0 v) low n (λ k l. off 0 v (low + k) (ne k l)));
-        buys = ap (option_map (lead_at o)) (sym (highest-none (leaves permitted o 1 v) low n (λ k l. off 1 v (low + k) (ne k l))));
-        sells = ap (option_map (lead_at o)) (sym (lowest-none (leaves permitted o 2 v) low n (λ k l. off 2 v (low + k) (ne k l))));
+        first = sym (lowest-none (leaves permitted o None v) low n (λ k l. off None v (low + k) (ne k l)));
+        last = sym (highest-none (leaves permitted o None v) low n (λ k l. off None v (low + k) (ne k l)));
+        buys = ap (option_map (lead_at o)) (sym (highest-none (leaves permitted o (Some Buy) v) low n (λ k l. off (Some Buy) v (low + k) (ne k l))));
+        sells = ap (option_map (lead_at o)) (sym (lowest-none (leaves permitted o (Some Sell) v) low n (λ k l. off (Some Sell) v (low + k) (ne k l))));
       }
 
   tops-keep : (v : ℕ) (t : Tally) → (traded_at permitted o (low + n) ≡ v → ⊥) → Tops permitted o low n v t → Tops permitted o low (suc n) v t
   tops-keep v t ne h = record {
-    first = h.first ∙ sym (lowest-miss (leaves permitted o 0 v) low n (off 0 v (low + n) ne));
-    last = h.last ∙ sym (highest-miss (leaves permitted o 0 v) low n (off 0 v (low + n) ne));
-    buys = h.buys ∙ ap (option_map (lead_at o)) (sym (highest-miss (leaves permitted o 1 v) low n (off 1 v (low + n) ne)));
-    sells = h.sells ∙ ap (option_map (lead_at o)) (sym (lowest-miss (leaves permitted o 2 v) low n (off 2 v (low + n) ne)));
+    first = h.first ∙ sym (lowest-miss (leaves permitted o None v) low n (off None v (low + n) ne));
+    last = h.last ∙ sym (highest-miss (leaves permitted o None v) low n (off None v (low + n) ne));
+    buys = h.buys ∙ ap (option_map (lead_at o)) (sym (highest-miss (leaves permitted o (Some Buy) v) low n (off (Some Buy) v (low + n) ne)));
+    sells = h.sells ∙ ap (option_map (lead_at o)) (sym (lowest-miss (leaves permitted o (Some Sell) v) low n (off (Some Sell) v (low + n) ne)));
   }
 
   tops-skip : (v m : ℕ) (t : Tally) → ((k : ℕ) → n ≤ k → k < n + m → traded_at permitted o (low + k) ≡ v → ⊥) → Tops permitted o low n v t → Tops permitted o low (n + m) v t
   tops-skip v m t ne h = record {
-    first = h.first ∙ sym (lowest-skip (leaves permitted o 0 v) low n m (λ k a l. off 0 v (low + k) (ne k a l)));
-    last = h.last ∙ sym (highest-skip (leaves permitted o 0 v) low n m (λ k a l. off 0 v (low + k) (ne k a l)));
-    buys = h.buys ∙ ap (option_map (lead_at o)) (sym (highest-skip (leaves permitted o 1 v) low n m (λ k a l. off 1 v (low + k) (ne k a l))));
-    sells = h.sells ∙ ap (option_map (lead_at o)) (sym (lowest-skip (leaves permitted o 2 v) low n m (λ k a l. off 2 v (low + k) (ne k a l))));
+    first = h.first ∙ sym (lowest-skip (leaves permitted o None v) low n m (λ k a l. off None v (low + k) (ne k a l)));
+    last = h.last ∙ sym (highest-skip (leaves permitted o None v) low n m (λ k a l. off None v (low + k) (ne k a l)));
+    buys = h.buys ∙ ap (option_map (lead_at o)) (sym (highest-skip (leaves permitted o (Some Buy) v) low n m (λ k a l. off (Some Buy) v (low + k) (ne k a l))));
+    sells = h.sells ∙ ap (option_map (lead_at o)) (sym (lowest-skip (leaves permitted o (Some Sell) v) low n m (λ k a l. off (Some Sell) v (low + k) (ne k a l))));
   }
 
   tops-join : (v : ℕ) (t : Tally) → traded_at permitted o (low + n) ≡ v → Tops permitted o low n v t → (u : Unmatched) → unmatched_at o (low + n) ≡ u → Tops permitted o low (suc n) v (joined t (low + n) u)
   tops-join v t e h Nothing eu = record {
-    first = ap (λ x. or_else x (Some (low + n))) h.first ∙ sym (lowest-hit (leaves permitted o 0 v) low n (on 0 v (low + n) Nothing e eu refl));
-    last = sym (highest-hit (leaves permitted o 0 v) low n (on 0 v (low + n) Nothing e eu refl));
-    buys = h.buys ∙ ap (option_map (lead_at o)) (sym (highest-miss (leaves permitted o 1 v) low n (other 1 v (low + n) Nothing eu refl)));
-    sells = h.sells ∙ ap (option_map (lead_at o)) (sym (lowest-miss (leaves permitted o 2 v) low n (other 2 v (low + n) Nothing eu refl)));
+    first = ap (λ x. option_or x (Some (low + n))) h.first ∙ sym (lowest-hit (leaves permitted o None v) low n (on None v (low + n) Nothing e eu refl));
+    last = sym (highest-hit (leaves permitted o None v) low n (on None v (low + n) Nothing e eu refl));
+    buys = h.buys ∙ ap (option_map (lead_at o)) (sym (highest-miss (leaves permitted o (Some Buy) v) low n (other (Some Buy) v (low + n) Nothing eu refl)));
+    sells = h.sells ∙ ap (option_map (lead_at o)) (sym (lowest-miss (leaves permitted o (Some Sell) v) low n (other (Some Sell) v (low + n) Nothing eu refl)));
   }
   tops-join v t e h (Buys m) eu = record {
-    first = h.first ∙ sym (lowest-miss (leaves permitted o 0 v) low n (other 0 v (low + n) (Buys m) eu refl));
-    last = h.last ∙ sym (highest-miss (leaves permitted o 0 v) low n (other 0 v (low + n) (Buys m) eu refl));
-    buys = ap (λ (x : Unmatched). Some (lead_of (low + n) (contracts_of x))) (sym eu) ∙ ap (option_map (lead_at o)) (sym (highest-hit (leaves permitted o 1 v) low n (on 1 v (low + n) (Buys m) e eu refl)));
-    sells = h.sells ∙ ap (option_map (lead_at o)) (sym (lowest-miss (leaves permitted o 2 v) low n (other 2 v (low + n) (Buys m) eu refl)));
+    first = h.first ∙ sym (lowest-miss (leaves permitted o None v) low n (other None v (low + n) (Buys m) eu refl));
+    last = h.last ∙ sym (highest-miss (leaves permitted o None v) low n (other None v (low + n) (Buys m) eu refl));
+    buys = ap (λ (x : Unmatched). Some (lead_of (low + n) (contracts_of x))) (sym eu) ∙ ap (option_map (lead_at o)) (sym (highest-hit (leaves permitted o (Some Buy) v) low n (on (Some Buy) v (low + n) (Buys m) e eu refl)));
+    sells = h.sells ∙ ap (option_map (lead_at o)) (sym (lowest-miss (leaves permitted o (Some Sell) v) low n (other (Some Sell) v (low + n) (Buys m) eu refl)));
   }
   tops-join v t e h (Sells m) eu = record {
-    first = h.first ∙ sym (lowest-miss (leaves permitted o 0 v) low n (other 0 v (low + n) (Sells m) eu refl));
-    last = h.last ∙ sym (highest-miss (leaves permitted o 0 v) low n (other 0 v (low + n) (Sells m) eu refl));
-    buys = h.buys ∙ ap (option_map (lead_at o)) (sym (highest-miss (leaves permitted o 1 v) low n (other 1 v (low + n) (Sells m) eu refl)));
-    sells = ap₂ or_else h.sells (ap (λ (x : Unmatched). Some (lead_of (low + n) (contracts_of x))) (sym eu)) ∙ else-mapped (lead_at o) _ (low + n) ∙ ap (option_map (lead_at o)) (sym (lowest-hit (leaves permitted o 2 v) low n (on 2 v (low + n) (Sells m) e eu refl)));
+    first = h.first ∙ sym (lowest-miss (leaves permitted o None v) low n (other None v (low + n) (Sells m) eu refl));
+    last = h.last ∙ sym (highest-miss (leaves permitted o None v) low n (other None v (low + n) (Sells m) eu refl));
+    buys = h.buys ∙ ap (option_map (lead_at o)) (sym (highest-miss (leaves permitted o (Some Buy) v) low n (other (Some Buy) v (low + n) (Sells m) eu refl)));
+    sells = ap₂ option_or h.sells (ap (λ (x : Unmatched). Some (lead_of (low + n) (contracts_of x))) (sym eu)) ∙ else-mapped (lead_at o) _ (low + n) ∙ ap (option_map (lead_at o)) (sym (lowest-hit (leaves permitted o (Some Sell) v) low n (on (Some Sell) v (low + n) (Sells m) e eu refl)));
   }
 
 module _ (permitted : ℕ → Bool) (o : Opening) (low n : ℕ) (t : Tally) (h : Seen permitted o low n t) where
@@ -134,13 +137,13 @@ module _ (permitted : ℕ → Bool) (o : Opening) (low n : ℕ) (t : Tally) (h :
           seen-join t (h.tops (omega (arith, same, pos))) (busy eu ∙ sym same) (omega arith)
 
 -- the walk passes prices that are not permitted
-pub seen-to : (permitted : ℕ → Bool) (o : Opening) (low n m : ℕ) (t : Tally) → Seen permitted o low n t → n ≤ m → ((k : ℕ) → low + n ≤ k → k < low + m → permitted k ≡ false) → Seen permitted o low m t
+seen-to : (permitted : ℕ → Bool) (o : Opening) (low n m : ℕ) (t : Tally) → Seen permitted o low n t → n ≤ m → ((k : ℕ) → low + n ≤ k → k < low + m → permitted k ≡ false) → Seen permitted o low m t
 seen-to permitted o low n m t h l no-rung =
     let e : n + (m - n) ≡ m = omega arith in
     subst (λ x. Seen permitted o low x t) e (seen_skip permitted o low n t h (m - n) (λ k x y. no-rung (low + k) (omega arith) (omega arith)))
 
 -- and takes a permitted one
-pub seen-take : (permitted : ℕ → Bool) (o : Opening) (low p : ℕ) (t : Tally) → Seen permitted o low (p - low) t → low ≤ p → permitted p ≡ true → Seen permitted o low ((p + 1) - low) (stepped t p (figures_at o p))
+seen-take : (permitted : ℕ → Bool) (o : Opening) (low p : ℕ) (t : Tally) → Seen permitted o low (p - low) t → low ≤ p → permitted p ≡ true → Seen permitted o low ((p + 1) - low) (stepped t p (figures_at o p))
 seen-take permitted o low p t h a rung =
     let e : low + (p - low) ≡ p = omega arith in
     let k : suc (p - low) ≡ (p + 1) - low = omega arith in
@@ -154,25 +157,50 @@ Within permitted = (p : ℕ) → permitted p ≡ true → (1 ≤ p) × (p ≤ 10
 out : (permitted : ℕ → Bool) → Within permitted → (k : ℕ) → ((1 ≤ k) × (k ≤ 100000) → ⊥) → permitted k ≡ false
 out permitted w k h = elim (cases_Bool (permitted k)) [ inl y ↦ absurd (h (w k y)) | inr n ↦ n ]
 
--- the walk begins at a price
-pub seen_start : (permitted : ℕ → Bool) (o : Opening) (low at : ℕ) → Within permitted → at ≡ max low 1 → Seen permitted o low (at - low) (fresh 0)
-seen_start permitted o low at w e =
-    seen-to permitted o low 0 (at - low) (fresh 0) (seen_none permitted o low) (omega arith) (λ k a l. out permitted w k (λ b. omega (arith, b.0, b.1)))
+-- the walk is at a price of the range, or just above: the tally has seen those below
+pub record Walked (permitted : ℕ → Bool) (o : Opening) (low high at top : ℕ) (t : Tally) : Type 0 where
+  pub from : low ≤ at
+  pub to : at - low ≤ suc high - low
+  pub ends : top ≡ min high 100000
+  pub seen : Seen permitted o low (at - low) t
 
--- and may end at the highest one
-pub seen_end : (permitted : ℕ → Bool) (o : Opening) (low high at : ℕ) (t : Tally) → Within permitted → Seen permitted o low (at - low) t → low ≤ at → at - low ≤ suc high - low → min high 100000 < at → Seen permitted o low (suc high - low) t
-seen_end permitted o low high at t w h a l top = seen-to permitted o low (at - low) (suc high - low) t h l (λ k x y. out permitted w k (λ b. omega (arith, b.0, b.1)))
+module _ (permitted : ℕ → Bool) (o : Opening) (low high : ℕ) where
+  pub walk-begins : Within permitted → Walked permitted o low high (max low 1) (min high 100000) (fresh 0)
+  walk-begins w = record {
+    from = omega arith;
+    to = omega arith;
+    ends = refl;
+    seen = seen-to permitted o low 0 (max low 1 - low) (fresh 0) (seen_none permitted o low) (omega arith) (λ k a l. out permitted w k (λ b. omega (arith, b.0, b.1)));
+  }
+
+  pub walk-steps : (at top p after : ℕ) (t : Tally) → Walked permitted o low high at top t → Steps permitted at top (Some p) after → Walked permitted o low high after top (stepped t p (figures_at o p))
+  walk-steps at top p after t h s =
+      let passed = seen-to permitted o low (at - low) (p - low) t h.seen (omega (arith, h.from, s.0)) (λ k x y. s.3 k (omega (arith, h.from)) (omega (arith, h.from, s.0))) in
+      let taken = seen-take permitted o low p t passed (omega (arith, h.from, s.0)) s.2 in
+      record {
+        from = omega (arith, h.from, s.0, s.4);
+        to = omega (arith, h.from, h.ends, s.0, s.1, s.4);
+        ends = h.ends;
+        seen = subst (λ x. Seen permitted o low (x - low) (stepped t p (figures_at o p))) (sym s.4) taken;
+      }
+
+  -- it may end at the highest price
+  pub walk-ends : (at top after : ℕ) (t : Tally) → Within permitted → Walked permitted o low high at top t → Steps permitted at top None after → Seen permitted o low (suc high - low) t
+  walk-ends at top after t w h s = seen-to permitted o low (at - low) (suc high - low) t h.seen h.to (λ k x y. elim (cases_lt top k) [
+    | inl beyond ↦ out permitted w k (λ b. omega (arith, h.from, h.ends, b.1))
+    | inr within ↦ s.1 k (omega (arith, h.from)) within
+  ])
 
 -- the price of a tally is the price of what it has seen
-comes-to-settled : (permitted : ℕ → Bool) (o : Opening) (close : ℕ) (f z x y : Option ℕ) → comes_to_by permitted close f z (option_map (lead_at o) x) (option_map (lead_at o) y) ≡ settled permitted o close f z x y
+comes-to-settled : (permitted : ℕ → Bool) (o : Opening) (close : Option ℕ) (f z x y : Option ℕ) → comes_to_by permitted close f z (option_map (lead_at o) x) (option_map (lead_at o) y) ≡ settled permitted o close f z x y
 comes-to-settled permitted o close (Some a) z x y = refl
 comes-to-settled permitted o close None z (Some x) (Some y) = refl
 comes-to-settled permitted o close None z (Some x) None = refl
 comes-to-settled permitted o close None z None (Some y) = refl
 comes-to-settled permitted o close None z None None = refl
 
-pub seen-price : (permitted : ℕ → Bool) (o : Opening) (low n : ℕ) (t : Tally) → Seen permitted o low n t → (close : ℕ) → comes_to permitted close t ≡ price_of permitted o low n close
+pub seen-price : (permitted : ℕ → Bool) (o : Opening) (low n : ℕ) (t : Tally) → Seen permitted o low n t → (close : Option ℕ) → comes_to permitted close t ≡ price_of permitted o low n close
 seen-price permitted o low n t h close = elim (cases_lt 0 t.volume) [
-  | inl pos ↦ let tops = h.tops pos in simp (tops.first, tops.last, tops.buys, tops.sells) (ap (cond (eqb t.volume 0) None) (comes-to-settled permitted o close (lowest (leaves permitted o 0 t.volume) low n) (highest (leaves permitted o 0 t.volume) low n) (highest (leaves permitted o 1 t.volume) low n) (lowest (leaves permitted o 2 t.volume) low n)) ∙ ap (price_with permitted o low n close) h.volume)
+  | inl pos ↦ let tops = h.tops pos in simp (tops.first, tops.last, tops.buys, tops.sells) (ap (cond (eqb t.volume 0) None) (comes-to-settled permitted o close (lowest (leaves permitted o None t.volume) low n) (highest (leaves permitted o None t.volume) low n) (highest (leaves permitted o (Some Buy) t.volume) low n) (lowest (leaves permitted o (Some Sell) t.volume) low n)) ∙ ap (price_with permitted o low n close) h.volume)
   | inr none ↦ let z : eqb t.volume 0 ≡ true = eq-eqb t.volume 0 (omega arith) in let y : eqb (greatest (traded_at permitted o) low n) 0 ≡ true = eq-eqb _ 0 (omega (arith, h.volume)) in rw (z, y)
 ]

@@ -1,8 +1,8 @@
 -- What the rows of a book and the away market come to at a price.
-use Rattle.std.specs.Prelude.{ℕ, ◌-◌, min, Bool, cond, ◌&&◌, List, ◌==◌, nat_le, nat_lt}
+use Rattle.std.specs.Prelude.{ℕ, ◌-◌, min, Bool, true, false, cond, ◌&&◌, List, Some, None, Option, ◌==◌, nat_le, nat_lt}
 use Rattle.interest.specs.declared.Side.{Side}
 use Rattle.interest.specs.declared.Side.TheVariants.{Buy, Sell}
-use Rattle.interest.specs.Sides.{opposite}
+use Rattle.interest.specs.Sides.{opposite, same_side}
 use Rattle.book.specs.declared.row.Row.{Row}
 use Rattle.book.specs.Ranks.{interest_at, routable_at, interest_through, routable_through}
 use Rattle.market.specs.Counts.{one_better}
@@ -47,11 +47,18 @@ unmatched_of buys sells = cond (nat_lt sells buys) (Buys (buys - sells)) (cond (
 abbrev pub unmatched_at : Opening → ℕ → Unmatched
 unmatched_at o p = unmatched_of (net_at o Buy p) (net_at o Sell p)
 
--- the number of its side, and how many contracts
-abbrev pub side_number : Unmatched → ℕ
-side_number Nothing = 0
-side_number (Buys n) = 1
-side_number (Sells n) = 2
+-- its side, and how many contracts
+abbrev pub side_of : Unmatched → Option Side
+side_of Nothing = None
+side_of (Buys n) = Some Buy
+side_of (Sells n) = Some Sell
+
+-- the same side, or none
+abbrev pub same_left : Option Side → Option Side → Bool
+same_left (Some a) (Some b) = same_side a b
+same_left (Some a) None = false
+same_left None (Some b) = false
+same_left None None = true
 
 abbrev pub contracts_of : Unmatched → ℕ
 contracts_of Nothing = 0
@@ -82,3 +89,8 @@ figures_at o p = record {
   volume = volume_at o p;
   unmatched = unmatched_at o p;
 }
+
+-- those that rows of a side could have
+abbrev pub better_of : Figures → Side → ℕ
+better_of f Buy = f.better_offers
+better_of f Sell = f.better_bids

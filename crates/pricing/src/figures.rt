@@ -4,12 +4,13 @@ ghost use Rattle.interest.specs.Bounds.{priced};
 ghost use Rattle.interest.specs.Sides.{opposite};
 ghost use Rattle.book.specs.Books.{rows_of};
 ghost use Rattle.market.specs.Counts.{counted, one_better};
-ghost use Rattle.pricing.specs.Prices.{opening, allowed, unmatched_of, side_number, contracts_of, figures_at};
+ghost use Rattle.pricing.specs.Prices.{opening, allowed, unmatched_of, side_of, contracts_of, better_of, figures_at};
 ghost use Rattle.pricing.specs.Best.{Slope, Slopes};
 
 use book::book::Book;
 use interest::{Side, is_price};
 use market::ShownMarket;
+use std::cmp::Ordering;
 
 /// Whether an opening takes only prices with nothing better away, or routes to better prices first.
 #[derive(Clone, Copy, PartialEq, Eq, Debug)]
@@ -18,7 +19,20 @@ pub enum Mode {
     Routing,
 }
 
+impl Mode {
+    /// Whether better contracts leave a price usable.
+    fn allows(self, better: u32, routable: u32) -> bool
+        ensures { result ≡ allowed self better routable }
+    {
+        match self {
+            Mode::Exchange => better == 0,
+            Mode::Routing => better <= routable,
+        }
+    }
+}
+
 /// What routing and filling leave on the larger side.
+// Three cases of their own: an `Option` of a side with its contracts would be taken apart wherever one is matched.
 #[derive(Clone, Copy, PartialEq, Eq, Debug)]
 pub enum Unmatched {
     Nothing,
@@ -27,14 +41,25 @@ pub enum Unmatched {
 }
 
 impl Unmatched {
-    /// The number of its side: 0 for none, 1 for buys, 2 for sells.
-    pub fn side(self) -> u8
-        ensures { result ≡ side_number self }
+    /// What two sides leave: their difference, on the larger.
+    fn between(buys: u32, sells: u32) -> Unmatched
+        ensures { result ≡ unmatched_of buys sells }
+    {
+        match buys.cmp(&sells) {
+            Ordering::Greater => Unmatched::Buys(buys - sells),
+            Ordering::Less => Unmatched::Sells(sells - buys),
+            Ordering::Equal => Unmatched::Nothing,
+        }
+    }
+
+    /// Its side, if anything is left.
+    pub fn side(self) -> Option<Side>
+        ensures { result ≡ side_of self }
     {
         match self {
-            Unmatched::Nothing => 0,
-            Unmatched::Buys(_) => 1,
-            Unmatched::Sells(_) => 2,
+            Unmatched::Nothing => None,
+            Unmatched::Buys(_) => Some(Side::Buy),
+            Unmatched::Sells(_) => Some(Side::Sell),
         }
     }
 
@@ -62,6 +87,18 @@ pub struct Figures {
     pub unmatched: Unmatched,
 }
 
+impl Figures {
+    /// The better away contracts that rows of a side could have. A match, and no map by side: readers know the fields by name.
+    pub(crate) fn better(self, side: Side) -> u32
+        ensures { result ≡ better_of self side }
+    {
+        match side {
+            Side::Buy => self.better_offers,
+            Side::Sell => self.better_bids,
+        }
+    }
+}
+
 /// What a price comes to; none for a number that is no price.
 pub fn figures_at<M: ShownMarket>(
     book: &Book,
@@ -72,13 +109,10 @@ pub fn figures_at<M: ShownMarket>(
     ensures is { result ≡ (if priced price then Some (figures_at (opening (rows_of book.now) (M.ShownMarket.shown market.now) mode) price) else None) }
     ensures slopes { Slopes (opening (rows_of book.now) (M.ShownMarket.shown market.now) mode) price result }
 {
-    if is_price(price) {
-        Some(figures_of(book, market, mode, price))
-    } else {
-        None
-    }
+    is_price(price).then(|| figures_of(book, market, mode, price))
 }
 
+// The price stays a number with a `requires`, here and in two more: the permitted prices that are walked over are numbers.
 pub(crate) fn figures_of<M: ShownMarket>(book: &Book, market: &M, mode: Mode, price: u32) -> Figures
     requires { priced price ≡ true }
     ensures is { result ≡ figures_at (opening (rows_of book.now) (M.ShownMarket.shown market.now) mode) price }
@@ -89,16 +123,16 @@ pub(crate) fn figures_of<M: ShownMarket>(book: &Book, market: &M, mode: Mode, pr
     let better_bids = better_for(Side::Sell, market, price);
     let buys = depth.buys.saturating_sub(better_offers);
     let sells = depth.sells.saturating_sub(better_bids);
-    let offers_taken = allows(mode, better_offers, depth.routable_buys);
-    let bids_taken = allows(mode, better_bids, depth.routable_sells);
+    let offers_taken = mode.allows(better_offers, depth.routable_buys);
+    let bids_taken = mode.allows(better_bids, depth.routable_sells);
     Figures {
         buys: depth.buys,
         sells: depth.sells,
         better_offers,
         better_bids,
-        usable: offers_taken & bids_taken,
+        usable: offers_taken && bids_taken,
         volume: buys.min(sells),
-        unmatched: difference(buys, sells),
+        unmatched: Unmatched::between(buys, sells),
     }
 }
 
@@ -107,30 +141,9 @@ fn better_for<M: ShownMarket>(side: Side, market: &M, price: u32) -> u32
     requires { priced price ≡ true }
     ensures { result ≡ counted (M.ShownMarket.shown market.now (opposite side)) (one_better (opposite side) price) 4294967295 }
 {
-    match side {
-        Side::Buy => market.count(Side::Sell, price - 1, u32::MAX),
-        Side::Sell => market.count(Side::Buy, price + 1, u32::MAX),
-    }
-}
-
-/// Whether better contracts leave a price usable.
-fn allows(mode: Mode, better: u32, routable: u32) -> bool
-    ensures { result ≡ allowed mode better routable }
-{
-    match mode {
-        Mode::Exchange => better == 0,
-        Mode::Routing => better <= routable,
-    }
-}
-
-fn difference(buys: u32, sells: u32) -> Unmatched
-    ensures { result ≡ unmatched_of buys sells }
-{
-    if sells < buys {
-        Unmatched::Buys(buys - sells)
-    } else if buys < sells {
-        Unmatched::Sells(sells - buys)
-    } else {
-        Unmatched::Nothing
-    }
+    let better = match side {
+        Side::Buy => price - 1,
+        Side::Sell => price + 1,
+    };
+    market.count(side.opposite(), better, u32::MAX)
 }

@@ -2,4 +2,6 @@
 #![tactic(auto)]
 
 pub mod figures;
+mod rungs;
+pub mod scene;
 pub mod search;

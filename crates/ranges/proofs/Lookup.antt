@@ -1,7 +1,10 @@
 -- The look-up in the table of bands: what it finds, and that a higher bid never finds smaller widths.
-use Rattle.std.proofs.Common.{◌≡◌, ℕ, zero, suc, ◌<◌, ◌≤◌, true, false, cond, leb, ◌⊎◌, List, [], ◌∷◌, length, get_or, sym, refl, ap, ◌∙◌, subst, inl, inr, suc-le-suc, arith, rules}
+use Rattle.std.proofs.Common.{◌≡◌, ℕ, ◌<◌, ◌≤◌, Bool, true, cond, leb, ◌⊎◌, List, [], ◌∷◌, ◌++◌, reverse, Some, None, Option, sym, refl, ap, ◌∙◌, subst, inl, inr, arith, rules}
+use Rattle.std.proofs.lemmas.Bool.{cond-true, cond-false, cond_both, cases_Bool}
 use Rattle.std.proofs.lemmas.Bool.Decides.{leb_tells, nat_tests}
-use Rattle.std.specs.List.{AllByRecursion}
+use Rattle.std.proofs.lemmas.List.{reverse-append}
+use Rattle.std.specs.List.{AllByRecursion, find}
+use Rattle.std.specs.Option.{unwrap_or}
 use Rattle.ranges.specs.declared.Band.{Band}
 use Rattle.ranges.specs.Bands.{lowest_band, higher_bands, band_table, last_reached, band_of, LastReached, NoNarrower}
 
@@ -34,28 +37,28 @@ pub band-is-last : (bid : ℕ) → LastReached band_table bid (band_of bid)
 unfolding band_of
 band-is-last bid = starts-there bid lowest_band higher_bands (band_of bid) (omega arith) (walk_ends bid higher_bands lowest_band)
 
-none-reached : (bid : ℕ) (xs : List Band) (b d : Band) → ((j : ℕ) → j < length xs → bid < (get_or xs j d).from) → last_reached bid xs b ≡ b
-none-reached bid [] b d out = refl
-none-reached bid (x ∷ xs) b d out =
-    let h : bid < x.from = out 0 (omega arith) in
-    let e : leb x.from bid ≡ false = grind (arith, nat_tests) in
-    rw e (none-reached bid xs b d (λ j k. out (suc j) (suc-le-suc k)))
+-- the walk ends at the first band that is reached from the end, or at b
+find-end : (p : Band → Bool) (ys : List Band) (x b : Band) → unwrap_or (find p (ys ++ (x ∷ []))) b ≡ unwrap_or (find p ys) (cond (p x) x b)
+find-end p [] x b = cond_both (p x) (Some x) None (λ (o : Option Band). unwrap_or o b ≡ cond (p x) x b) (λ e. sym (cond-true (p x) x b e)) (λ e. sym (cond-false (p x) x b e))
+find-end p (y ∷ ys) x b =
+    elim (cases_Bool (p y)) [
+      | inl e ↦ rw e refl
+      | inr e ↦ rw e (find-end p ys x b)
+    ]
 
--- a band that is reached, with all after it out of reach, is the last one
-last-at : (bid : ℕ) (xs : List Band) (i : ℕ) (b d : Band) → i < length xs → (get_or xs i d).from ≤ bid → ((j : ℕ) → j < length xs → i < j → bid < (get_or xs j d).from) → last_reached bid xs b ≡ get_or xs i d
-last-at bid [] i b d h at out = absurd (omega arith)
-last-at bid (x ∷ xs) zero b d h at out =
-    let e : leb x.from bid ≡ true = grind (arith, nat_tests) in
-    rw e (none-reached bid xs x d (λ j k. out (suc j) (suc-le-suc k) (omega arith)))
-last-at bid (x ∷ xs) (suc i) b d h at out = last-at bid xs i (cond (leb x.from bid) x b) d (omega arith) at (λ j k l. out (suc j) (suc-le-suc k) (suc-le-suc l))
+from-end : (bid : ℕ) (xs : List Band) (b : Band) → unwrap_or (find (λ x. leb x.from bid) (reverse xs)) b ≡ last_reached bid xs b
+from-end bid [] b = refl
+from-end bid (x ∷ xs) b =
+    ap (λ (ys : List Band). unwrap_or (find (λ y. leb y.from bid) ys) b) (reverse-append (x ∷ []) xs)
+    ∙ find-end (λ y. leb y.from bid) (reverse xs) x b
+    ∙ from-end bid xs (cond (leb x.from bid) x b)
 
--- the band at the last place reached is the rule's, in any list that is the table
-pub band-found : {xs : List Band} (bid i : ℕ) (d : Band) → xs ≡ band_table → i < 5 → (get_or band_table i d).from ≤ bid → ((j : ℕ) → j < 5 → i < j → bid < (get_or band_table j d).from) → get_or xs i d ≡ band_of bid
+-- so it is the rule's, in any list that is the table
+pub band-found : (bid : ℕ) → unwrap_or (find (λ x. leb x.from bid) (reverse band_table)) lowest_band ≡ band_of bid
 unfolding band_of
-band-found {xs} bid i d same h at out =
+band-found bid =
     let e : leb 0 bid ≡ true = grind (arith, nat_tests) in
-    let walk : last_reached bid band_table lowest_band ≡ band_of bid = rw e in
-    ap (λ (ys : List Band). get_or ys i d) same ∙ sym (last-at bid band_table i lowest_band d h at out) ∙ walk
+    let walk : last_reached bid band_table lowest_band ≡ band_of bid = rw e in from-end bid band_table lowest_band ∙ walk
 
 -- each band is no narrower than the one before it
 abbrev Rising : Band → List Band → Type 0

@@ -1,12 +1,15 @@
 //! The bands of bids with their widths, and the ranges in which an opening price is looked for.
 #![tactic(auto)]
 
-ghost use Rattle.std.specs.Prelude.{◌≡◌, ℕ, ◌≤◌, true, false};
+ghost use Rattle.std.specs.Prelude.{◌≡◌, ℕ, ◌≤◌, true, false, nat_le, reverse, Some};
+ghost use Rattle.std.specs.List.{find};
 ghost use Rattle.interest.specs.Bounds.{priced};
 ghost use Rattle.ranges.specs.Bands.{band_table, band_of, LastReached, NoNarrower, valid_quote, quality_market};
 ghost use Rattle.ranges.specs.Ranges.{spread_of, quick_range, reaching, opening_range, Standing, Proper, Inside};
+ghost use Rattle.ranges.specs.Texts.{range_text};
 
 use interest::TOP_PRICE;
+use std::fmt;
 
 /// The bids from `from` up to the next band, and the widths that go with them: of a valid quote, of a quality market,
 /// and the amount by which the opening range is wider than the spread.
@@ -52,7 +55,8 @@ const BANDS: [Band; 5] = [
     },
 ];
 
-/// The highest bid and the lowest offer of the quotes; the bid is 0 where every quote bids 0.
+/// The highest bid and the lowest offer of the quotes; the bid is 0 where every quote bids 0, a
+/// number and no `Option`, since the bands begin at it.
 #[derive(Clone, Copy, PartialEq, Eq, Debug)]
 pub struct Quotes {
     pub bid: u32,
@@ -66,11 +70,34 @@ pub struct Away {
     pub offer: Option<u32>,
 }
 
+/// The best prices of a series: of the quotes here, and of the away market.
+#[derive(Clone, Copy, PartialEq, Eq, Debug)]
+pub struct BestPrices {
+    pub quotes: Quotes,
+    pub away: Away,
+}
+
 /// The prices from `low` to `high`; none where `low` is above `high`.
 #[derive(Clone, Copy, PartialEq, Eq, Debug)]
 pub struct Range {
     pub low: u32,
     pub high: u32,
+}
+
+impl fmt::Display for Range {
+    ghost output = { λ range. Some (range_text range) };
+
+    fn fmt<W: fmt::Write>(&self, f: &mut fmt::Formatter<W>) -> fmt::Result {
+        let Range { low, high } = *self;
+        write!(f, "{low} {high}")
+    }
+}
+
+/// The last of some bands that starts at or below a bid.
+fn last_reached(bands: &[Band], bid: u32) -> Option<Band>
+    ensures { result ≡ find (λ x. nat_le x.from bid) (reverse bands.now) }
+{
+    bands.iter().rev().copied().find(|band| band.from <= bid)
 }
 
 /// The band of a bid: the last one that starts at or below it. A higher bid never has a smaller width.
@@ -79,14 +106,7 @@ pub fn band_of(bid: u32) -> Band
     ensures last { LastReached band_table bid result }
     ensures wider { (higher : ℕ) → bid ≤ higher → NoNarrower result (band_of higher) }
 {
-    let bands = &BANDS;
-    let mut last = 0;
-    for (i, band) in bands.iter().enumerate() {
-        if band.from <= bid {
-            last = i;
-        }
-    }
-    bands[last]
+    last_reached(&BANDS, bid).unwrap_or(BANDS[0])
 }
 
 /// Whether a quote is narrow enough: its offer is above its bid by at most the valid width.
@@ -101,94 +121,92 @@ pub fn is_quality(quotes: Quotes) -> bool
     ensures { result ≡ quality_market quotes }
 {
     let width = band_of(quotes.bid).quality;
-    (quotes.bid <= quotes.offer) & (quotes.offer.saturating_sub(quotes.bid) <= width)
+    quotes.bid <= quotes.offer && quotes.offer.saturating_sub(quotes.bid) <= width
 }
 
-/// From the highest bid to the lowest offer, quotes and away together.
-fn spread(quotes: Quotes, away: Away) -> Range
-    ensures { result ≡ spread_of quotes away }
-{
-    Range {
-        low: quotes.bid.max(away.bid.unwrap_or(quotes.bid)),
-        high: quotes.offer.min(away.offer.unwrap_or(quotes.offer)),
+impl BestPrices {
+    /// From the highest bid to the lowest offer, quotes and away together.
+    fn spread(self) -> Range
+        ensures { result ≡ spread_of self.quotes self.away }
+    {
+        let BestPrices { quotes, away } = self;
+        Range {
+            low: quotes.bid.max(away.bid.unwrap_or(quotes.bid)),
+            high: quotes.offer.min(away.offer.unwrap_or(quotes.offer)),
+        }
     }
-}
 
-/// The range of a quick opening: the spread, if an away price is shown or the quotes make a quality market.
-/// With crossed quotes it is the away market's own, if both of its prices are shown.
-pub fn quick_range(quotes: Quotes, away: Away) -> Option<Range>
-    ensures { result ≡ quick_range quotes away }
-{
-    if quotes.offer < quotes.bid {
-        return Some(Range {
-            low: away.bid?,
-            high: away.offer?,
-        });
+    /// The range of a quick opening: the spread, if an away price is shown or the quotes make a quality market.
+    /// With crossed quotes it is the away market's own, if both of its prices are shown.
+    pub fn quick_range(self) -> Option<Range>
+        ensures { result ≡ quick_range self.quotes self.away }
+    {
+        let BestPrices { quotes, away } = self;
+        if quotes.offer < quotes.bid {
+            return Some(Range {
+                low: away.bid?,
+                high: away.offer?,
+            });
+        }
+        let any_away = away.bid.is_some() || away.offer.is_some();
+        (any_away || is_quality(quotes)).then_some(self.spread())
     }
-    if away.bid.is_some() || away.offer.is_some() || is_quality(quotes) {
-        return Some(spread(quotes, away));
+
+    /// Whether the quotes are crossed, or one of them reaches the away price of the other side.
+    fn is_reaching(self) -> bool
+        ensures { result ≡ reaching self.quotes self.away }
+    {
+        let BestPrices { quotes, away } = self;
+        let bid_reaches = away.offer.is_some_and(|offer| offer <= quotes.bid);
+        let offer_reaches = away.bid.is_some_and(|bid| quotes.offer <= bid);
+        quotes.offer < quotes.bid || bid_reaches || offer_reaches
     }
-    None
-}
 
-/// Whether the quotes are crossed, or one of them reaches the away price of the other side.
-fn is_reaching(quotes: Quotes, away: Away) -> bool
-    ensures { result ≡ reaching quotes away }
-{
-    let bid_reaches = match away.offer {
-        Some(offer) => offer <= quotes.bid,
-        None => false,
-    };
-    let offer_reaches = match away.bid {
-        Some(bid) => quotes.offer <= bid,
-        None => false,
-    };
-    (quotes.offer < quotes.bid) | bid_reaches | offer_reaches
-}
-
-/// From the away bid to the away offer; for one that is not shown, the least or the greatest of the other prices.
-fn away_ends(quotes: Quotes, away: Away) -> Range
-    requires { reaching quotes away ≡ true }
-    ensures { result ≡ opening_range quotes away }
-{
-    let least = quotes
-        .bid
-        .min(quotes.offer)
-        .min(away.offer.unwrap_or(quotes.offer));
-    let greatest = quotes
-        .bid
-        .max(quotes.offer)
-        .max(away.bid.unwrap_or(quotes.bid));
-    Range {
-        low: away.bid.unwrap_or(least),
-        high: away.offer.unwrap_or(greatest),
+    /// From the away bid to the away offer; for one that is not shown, the least or the greatest of the other prices.
+    fn away_ends(self) -> Range
+        requires { reaching self.quotes self.away ≡ true }
+        ensures { result ≡ opening_range self.quotes self.away }
+    {
+        let BestPrices { quotes, away } = self;
+        let least = quotes
+            .bid
+            .min(quotes.offer)
+            .min(away.offer.unwrap_or(quotes.offer));
+        let greatest = quotes
+            .bid
+            .max(quotes.offer)
+            .max(away.bid.unwrap_or(quotes.bid));
+        Range {
+            low: away.bid.unwrap_or(least),
+            high: away.offer.unwrap_or(greatest),
+        }
     }
-}
 
-/// The spread, wider at both ends by the amount of its bid's band and cut to 1 and 100,000.
-fn wider_spread(quotes: Quotes, away: Away) -> Range
-    requires { reaching quotes away ≡ false }
-    ensures { result ≡ opening_range quotes away }
-{
-    let Range { low, high } = spread(quotes, away);
-    let amount = band_of(low).amount;
-    Range {
-        low: low.saturating_sub(amount).max(1),
-        high: high.saturating_add(amount).min(TOP_PRICE),
+    /// The spread, wider at both ends by the amount of its bid's band and cut to 1 and 100,000.
+    fn wider_spread(self) -> Range
+        requires { reaching self.quotes self.away ≡ false }
+        ensures { result ≡ opening_range self.quotes self.away }
+    {
+        let Range { low, high } = self.spread();
+        let amount = band_of(low).amount;
+        Range {
+            low: low.saturating_sub(amount).max(1),
+            high: high.saturating_add(amount).min(TOP_PRICE),
+        }
     }
-}
 
-/// The range of any other opening: the spread made wider; or the away ends, where the quotes are crossed or one reaches
-/// the away price of the other side. It goes from a price to one that is not below it, and holds every price of the spread.
-pub fn opening_range(quotes: Quotes, away: Away) -> Range
-    ensures rule { result ≡ opening_range quotes away }
-    ensures proper { Standing quotes away → Proper result }
-    ensures whole { (p : ℕ) → priced p ≡ true → Inside p (spread_of quotes away) → Inside p result }
-{
-    if is_reaching(quotes, away) {
-        away_ends(quotes, away)
-    } else {
-        wider_spread(quotes, away)
+    /// The range of any other opening: the spread made wider; or the away ends, where the quotes are crossed or one reaches
+    /// the away price of the other side. It goes from a price to one that is not below it, and holds every price of the spread.
+    pub fn opening_range(self) -> Range
+        ensures rule { result ≡ opening_range self.quotes self.away }
+        ensures proper { Standing self.quotes self.away → Proper result }
+        ensures whole { (p : ℕ) → priced p ≡ true → Inside p (spread_of self.quotes self.away) → Inside p result }
+    {
+        if self.is_reaching() {
+            self.away_ends()
+        } else {
+            self.wider_spread()
+        }
     }
 }
 
@@ -196,25 +214,23 @@ pub fn opening_range(quotes: Quotes, away: Away) -> Range
 mod tests {
     use super::*;
 
-    fn quick(bid: u32, offer: u32, away: (Option<u32>, Option<u32>)) -> Option<(u32, u32)> {
-        let range = quick_range(
-            Quotes { bid, offer },
-            Away {
+    fn best(bid: u32, offer: u32, away: (Option<u32>, Option<u32>)) -> BestPrices {
+        BestPrices {
+            quotes: Quotes { bid, offer },
+            away: Away {
                 bid: away.0,
                 offer: away.1,
             },
-        )?;
+        }
+    }
+
+    fn quick(bid: u32, offer: u32, away: (Option<u32>, Option<u32>)) -> Option<(u32, u32)> {
+        let range = best(bid, offer, away).quick_range()?;
         Some((range.low, range.high))
     }
 
     fn opening(bid: u32, offer: u32, away: (Option<u32>, Option<u32>)) -> (u32, u32) {
-        let range = opening_range(
-            Quotes { bid, offer },
-            Away {
-                bid: away.0,
-                offer: away.1,
-            },
-        );
+        let range = best(bid, offer, away).opening_range();
         (range.low, range.high)
     }
 

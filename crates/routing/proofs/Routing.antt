@@ -1,5 +1,5 @@
 -- Routing, level by level.
-use Rattle.std.proofs.Common.{◌≡◌, ℕ, zero, suc, ◌+◌, ◌-◌, ◌<◌, ◌≤◌, min, Bool, true, false, cond, ◌&&◌, eqb, ltb, List, [], ◌∷◌, length, get_or, take, sym, refl, ap, ◌∙◌, inl, inr, arith}
+use Rattle.std.proofs.Common.{◌≡◌, ℕ, Some, None, zero, suc, ◌+◌, ◌-◌, ◌<◌, ◌≤◌, min, Bool, true, false, cond, ◌&&◌, eqb, ltb, List, [], ◌∷◌, length, get_or, take, sym, refl, ap, ◌∙◌, inl, inr, arith}
 use Rattle.std.proofs.lemmas.Bool.Decides.{nat_tests}
 use Rattle.std.proofs.lemmas.Bool.{and_parts, and_from, cond-true, cond-false, cases_Bool}
 use Rattle.std.proofs.lemmas.List.Sums.{sum_by_more, sum_by-take-le}
@@ -19,7 +19,7 @@ use Rattle.book.proofs.RankFacts.{total-le, below_more, below_none, below_up}
 use Rattle.levels.specs.Levels.{stands_at, stands_below, holding_of, level_at, next_rank}
 use Rattle.levels.specs.Deals.{share_of, EachRow}
 use Rattle.levels.proofs.Dealing.{level-kept, level-total, dealt-at}
-use Rattle.levels.proofs.Walking.{first, advance}
+use Rattle.levels.proofs.Walking.{Skipped, begun, reach, advance, ended}
 use Rattle.levels.proofs.Totals.{gained, left_over}
 use Rattle.routing.specs.Routes.{served, sent_below, route_shares, routed_rows, route_share, own_share}
 use Rattle.routing.proofs.Sending.{served-deal}
@@ -74,14 +74,20 @@ module _ (f : ℕ → ℕ) (side : Side) (upto : ℕ) (start : List Row) where
     pub rows_are : rows ≡ routed_rows f side k start
     pub sent_is : sent ≡ sent_below f (can_route side) start k
 
-  pub route-first : (k : ℕ) → k ≡ next_rank (can_route side) 0 upto start → Routing start k 0
-  route-first k e =
-      let w = first (can_route side) route_row (λ g r. refl) (route_shares f (can_route side) start) start upto k e in
-      record { most = w.most; rows_are = w.rows_are; sent_is = sym (sent-skip f (can_route side) start 0 k (omega arith) w.sums ∙ sent-none f (can_route side) start) }
+  pub route-begun : Routing start 0 0
+  route-begun = record { most = omega arith; rows_are = begun (can_route side) route_row (λ g r. refl) (route_shares f (can_route side) start) start; sent_is = sym (sent-none f (can_route side) start) }
 
-  pub record Turned (k : ℕ) (after : List Row) (k' sent' : ℕ) : Type 0 where
-    pub routing : Routing after k' sent'
-    pub further : k < k'
+  skipped_to : (n k sent : ℕ) (rows : List Row) → k ≤ upto → n ≤ k → Routing rows n sent → Skipped (can_route side) route_row (λ g r. refl) (route_shares f (can_route side) start) start n rows k → Routing rows k sent
+  skipped_to n k sent rows most le now w = record { most = most; rows_are = w.rows_are; sent_is = now.sent_is ∙ sym (sent-skip f (can_route side) start n k le w.sums) }
+
+  pub route-reach : (n k sent : ℕ) (rows : List Row) → Routing rows n sent → Some k ≡ next_rank (can_route side) n upto rows → Routing rows k sent
+  route-reach n k sent rows now ek =
+      let w = reach (can_route side) route_row (λ g r. refl) (route_shares f (can_route side) start) start n upto k rows now.rows_are ek in
+      skipped_to n k sent rows (omega (arith, w.within)) w.least now w.skipped
+
+  pub route-ended : (n sent : ℕ) (rows : List Row) → Routing rows n sent → None ≡ next_rank (can_route side) n upto rows → Routing rows upto sent
+  route-ended n sent rows now en =
+      skipped_to n upto sent rows (omega arith) now.most now (ended (can_route side) route_row (λ g r. refl) (route_shares f (can_route side) start) start n upto rows now.most now.rows_are en)
 
   same-level : (k : ℕ) (rows : List Row) → rows ≡ routed_rows f side k start → level_at (can_route side) k rows ≡ level_at (can_route side) k start
   same-level k rows er = ap (level_at (can_route side) k) er ∙ level-kept (can_route side) route_row (λ g r. refl) (route_shares f (can_route side) start) k k (omega arith) [] start
@@ -89,19 +95,18 @@ module _ (f : ℕ → ℕ) (side : Side) (upto : ℕ) (start : List Row) where
   same_count : (k : ℕ) (rows : List Row) → rows ≡ routed_rows f side k start → at_rank (can_route side) k rows ≡ at_rank (can_route side) k start
   same_count k rows er = sym (level-total (can_route side) k rows) ∙ ap (λ (xs : List Holding). total (sizes xs)) (same-level k rows er) ∙ level-total (can_route side) k start
 
-  pub route-turn : (k sent q m : ℕ) (rows after : List Row) (k' : ℕ) → k < upto → rows ≡ routed_rows f side k start → sent ≡ sent_below f (can_route side) start k → q ≡ f k - sent
-      → after ≡ served (can_route side) route_row k q rows → m ≡ min q (at_rank (can_route side) k rows) → k' ≡ next_rank (can_route side) (k + 1) upto after
-      → Turned k after k' (sent + m)
-  route-turn k sent q m rows after k' lt er es eq ea em ek =
+  pub route-turn : (k sent q m : ℕ) (rows after : List Row) → k < upto → Routing rows k sent → q ≡ f k - sent → after ≡ served (can_route side) route_row k q rows → m ≡ min q (at_rank (can_route side) k rows)
+      → Routing after (k + 1) (sent + m)
+  route-turn k sent q m rows after lt now eq ea em =
       let part = can_route side in
-      let sa = same-level k rows er in
+      let sa = same-level k rows now.rows_are in
       let S = route_shares f part start in
-      let qs : q ≡ f k - sent_below f part start k = omega arith in
+      let qs : q ≡ f k - sent_below f part start k = omega (arith, now.sent_is) in
       let sh : time_shares q (level_at part k rows) ≡ S k = cc (qs, sa) in
-      let w = advance part route_row (λ g r. refl) S start upto k rows after k' lt er (ea ∙ served-deal part route_row k (S k) 0 q rows (sym sh)) ek in
       record {
-        routing = record { most = w.most; rows_are = w.rows_are; sent_is = omega (arith, es, em, qs, same_count k rows er, sent-more f part start k, sent-skip f part start (k + 1) k' w.least w.sums) };
-        further = omega (arith, w.least);
+        most = omega arith;
+        rows_are = advance part route_row (λ g r. refl) S start k rows after now.rows_are (ea ∙ served-deal part route_row k (S k) 0 q rows (sym sh));
+        sent_is = omega (arith, now.sent_is, em, qs, same_count k rows now.rows_are, sent-more f part start k);
       }
 
   pub sum_fits : (k sent m q : ℕ) (rows : List Row) → length start ≤ 128 → sound_table start ≡ true → rows ≡ routed_rows f side k start → sent ≡ sent_below f (can_route side) start k → m ≡ min q (at_rank (can_route side) k rows) → sent + m ≤ 128000000

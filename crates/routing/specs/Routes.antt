@@ -3,14 +3,13 @@ use Rattle.std.specs.Prelude.{◌≡◌, ℕ, zero, suc, ◌+◌, ◌-◌, ◌<�
 use Rattle.interest.specs.Bounds.{priced}
 use Rattle.interest.specs.declared.Side.{Side}
 use Rattle.interest.specs.declared.Side.TheVariants.{Buy, Sell}
+use Rattle.interest.specs.Sides.{opposite}
 use Rattle.sharing.specs.InOrder.{time_shares}
 use Rattle.book.specs.declared.row.Row.{Row}
 use Rattle.book.specs.Ranks.{can_route, rank_of, below, at_rank}
 use Rattle.book.specs.Rewrites.{route_row}
 use Rattle.levels.specs.Levels.{stands_at, level_at}
 use Rattle.levels.specs.Deals.{dealt}
-use Rattle.routing.specs.declared.SendPrice.{SendPrice}
-use Rattle.routing.specs.declared.SendPrice.TheVariants.{One, Own}
 
 -- the contracts shown at a price or better; 0 at a price out of bounds
 abbrev pub count_at : (ℕ → ℕ) → ℕ → ℕ
@@ -21,13 +20,18 @@ abbrev pub own_limit : Side → ℕ → ℕ
 own_limit Buy k = min 100000 (100001 - k)
 own_limit Sell k = max 1 k
 
--- the price that a row of rank k is sent at, and what is shown to it there
-abbrev pub price_at : SendPrice → Side → ℕ → ℕ
-price_at (One p) side k = p
-price_at Own side k = own_limit side k
+-- what is answered of each rank better than upto is its price
+abbrev pub Gives : (ℕ → ℕ → Type 0) → ℕ → (ℕ → ℕ) → Type 0
+Gives answers upto price = (k p : ℕ) → k < upto → answers k p → p ≡ price k
 
-abbrev pub seen_at : (ℕ → ℕ) → SendPrice → Side → ℕ → ℕ
-seen_at count price side k = count_at count (price_at price side k)
+-- what is shown to a row of rank k, where each rank is sent at a price of its own
+abbrev pub seen_at : (ℕ → ℕ) → (ℕ → ℕ) → ℕ → ℕ
+seen_at count price k = count_at count (price k)
+
+-- n contracts taken for the rows of a side: every count that they face falls by n, and their own side stays
+pub record SentFor (side : Side) (n : ℕ) (before after : Side → ℕ → ℕ) : Type 0 where
+  pub taken : (p : ℕ) → after (opposite side) p ≡ before (opposite side) p - n
+  pub stays : (p : ℕ) → after side p ≡ before side p
 
 -- a level served in row order, each row all it has left while there is enough
 abbrev pub served : (Row → Bool) → (ℕ → Row → Row) → ℕ → ℕ → List Row → List Row

@@ -21,7 +21,8 @@ use Rattle.stages.specs.declared.stage.Stage.TheVariants as stage
 use Rattle.stages.specs.declared.stage.Decision.{Decision}
 use Rattle.stages.specs.declared.stage.Decision.TheVariants.{Wait, Hold, Tell, Open}
 use Rattle.stages.specs.Messages.{message_of}
-use Rattle.stages.specs.Looks.{Scene, range_of, quotes_of, away_of, chosen_in, routing_choice, quoted_choice, opening_at, cleanly, exchange_opening, forced_opening, crossable, plainly, plain_opening, quick_at, quick_in, quick_opening, at_once}
+use Rattle.pricing.specs.Scenes.{Scene, chosen_in}
+use Rattle.stages.specs.Looks.{range_of, quotes_of, away_of, routing_choice, quoted_choice, opening_at, cleanly, exchange_opening, forced_opening, crossable, plainly, plain_opening, quick_at, quick_in, quick_opening, at_once}
 use Rattle.stages.specs.Decisions.{opens_or, last_call, decision_by, waits_or}
 use Rattle.ranges.specs.Ranges.{quick_range}
 use Rattle.pricing.specs.Best.{crossing}
@@ -32,7 +33,7 @@ pub record ChosenAt (x : Scene) (o : Opening) (p : ℕ) : Type 0 where
   pub choice : Choice
   pub price : choice.price ≡ p
   pub volume : choice.volume ≡ o.volume
-  pub best : Best x.permitted (opening x.rows x.shown (mode_of o.kind)) o.low o.high choice
+  pub best : Best x.permitted (opening x.rows x.shown (mode_of o.kind)) o.range.low o.range.high choice
 
 abbrev pub Fair : Scene → Opening → Type 0
 Fair x o = (p : ℕ) → o.price ≡ Some p → ChosenAt x o p

@@ -27,7 +27,7 @@ use Rattle.stages.specs.declared.stage.Decision.TheVariants as decision
 use Rattle.stages.specs.declared.stage.TickAnswer.{TickAnswer}
 use Rattle.stages.specs.declared.stage.TickAnswer.TheVariants.{Waits, Holds, Message}
 use Rattle.stages.specs.Stages.{is_open, due, stage_after, stage_by}
-use Rattle.stages.specs.Looks.{scene}
+use Rattle.pricing.specs.Scenes.{scene}
 use Rattle.runs.specs.States.{Terms, State, with_rows}
 use Rattle.runs.specs.Steps.{Entered, Withdrew, Quoted, Pulled, enter_cause, enter_answer, withdraw_answer, quote_cause, quote_answer, pull_answer}
 use Rattle.runs.specs.Ticks.{Tick, Ticked, decision_at, rows_by, told_by, tick_answer, CarriedBy}

@@ -1,5 +1,5 @@
 -- What an opening comes to, from rows as accepted: its report, what it leaves away, and its trade.
-use Rattle.std.proofs.Common.{◌≡◌, ℕ, suc, ◌+◌, ◌<◌, ◌≤◌, Bool, true, false, cond, List, [], ◌∷◌, length, get_or, Some, None, Option, unwrap_or, sym, refl, ap, ◌∙◌, subst, inl, inr, arith}
+use Rattle.std.proofs.Common.{◌≡◌, ℕ, suc, ◌+◌, ◌<◌, ◌≤◌, Bool, true, false, cond, List, [], ◌∷◌, length, get_or, Some, None, Option, sym, refl, ap, ◌∙◌, subst, inl, inr, arith}
 use Rattle.std.specs.List.{AllByRecursion}
 use Rattle.std.proofs.lemmas.Bool.{and_parts, both_ways, cases_lt, cond_both, eqb-true, leb-true}
 use Rattle.interest.specs.declared.Side.{Side}
@@ -9,7 +9,6 @@ use Rattle.interest.specs.Sides.{opposite}
 use Rattle.book.specs.declared.row.Row.{Row}
 use Rattle.book.specs.Ranks.{of_side, interest_at, routable_at}
 use Rattle.book.specs.Rewrites.{SameRows}
-use Rattle.book.proofs.RankFacts.{bounds}
 use Rattle.book.proofs.SumFacts.{routable-at-part}
 use Rattle.levels.proofs.Totals.{total-cons}
 use Rattle.pricing.specs.declared.figures.Mode.TheVariants as mode
@@ -20,7 +19,7 @@ use Rattle.clearing.specs.Kinds.{routes}
 use Rattle.clearing.specs.Openings.{priced_only, traded_on, counts_left}
 use Rattle.clearing.specs.Reports.{report_of}
 use Rattle.clearing.specs.Promises.{better_for, Usable, takes_opening}
-use Rattle.stages.specs.Looks.{scene}
+use Rattle.pricing.specs.Scenes.{scene}
 use Rattle.runs.specs.States.{Terms}
 use Rattle.runs.specs.Ticks.{Tick, Carried}
 use Rattle.runs.specs.Laws.{mode_of, Trade, Opens}
@@ -61,14 +60,6 @@ told-price (Some x) p e = by (priced x) e
     by true f = f
     by false f = let z : ◌≡◌ {A = ℕ} 0 1 = cc in absurd (omega arith)
 
-told-bound : (price : Option ℕ) (p : ℕ) → priced_only price ≡ Some p → 1 ≤ p
-told-bound None p e = let z : ◌≡◌ {A = ℕ} 0 1 = cc in absurd (omega arith)
-told-bound (Some x) p e = by (priced x) refl e
-  where
-    by : (b : Bool) → priced x ≡ b → cond b (Some x) None ≡ Some p → 1 ≤ p
-    by true f g = let same : x ≡ p = cc in omega (arith, (bounds x f).0)
-    by false f g = let z : ◌≡◌ {A = ℕ} 0 1 = cc in absurd (omega arith)
-
 -- rows of which none has traded, and none trades
 untraded-rows : (side : Side) (found left : List Row) → SameRows found left → AllByRecursion Fresh found → ((i : ℕ) (d : Row) → i < length found → (get_or found i d).traded < (get_or left i d).traded → ⊥) → traded_on side left ≡ 0
 untraded-rows side [] [] same fresh none = refl
@@ -81,9 +72,8 @@ untraded-rows side (r ∷ found) (s ∷ left) same fresh none =
     omega (arith, head, rest, total-cons (λ (x : Row). x.traded) (of_side side) s left)
 
 module _ (terms : Terms) (k : Tick) (o : Opening) (found left : List Row) (fresh : AllByRecursion Fresh found) (fair : Fair (scene terms.permitted terms.settings.close found k.before) o) (carried : Carried o k found left) where
-  trade-at : (told : Option ℕ) → priced_only o.price ≡ told → 0 < unwrap_or told 0 → Trade terms k (report_of o told left) found left
-  trade-at None e pos = absurd (omega arith)
-  trade-at (Some p) e pos =
+  trade-at : (p : ℕ) → priced_only o.price ≡ Some p → Trade terms k (report_of o (Some p) left) p found left
+  trade-at p e =
       let c = fair p (told-price o.price p e) in
       let at = opening found k.before (mode_of o.kind) in
       let same : c.choice.price ≡ p = c.price in
@@ -94,17 +84,16 @@ module _ (terms : Terms) (k : Tick) (o : Opening) (found left : List Row) (fresh
         volume = λ side. omega (arith, carried.volume p e open_at side, none-traded side found fresh);
         some = subst (λ (v : ℕ). 0 < v) c.volume c.best.some;
         on_ladder = subst (λ (q : ℕ). terms.permitted q ≡ true) same c.best.on_ladder;
-        from_low = subst (λ (q : ℕ). o.low ≤ q) same c.best.from;
-        to_high = subst (λ (q : ℕ). q ≤ o.high) same c.best.to;
+        from_low = subst (λ (q : ℕ). o.range.low ≤ q) same c.best.from;
+        to_high = subst (λ (q : ℕ). q ≤ o.range.high) same c.best.to;
         usable = usable;
         exact = exact;
         most = λ q low high rung can. subst (λ (v : ℕ). volume_at at q ≤ v) c.volume (c.best.most q low high rung can);
         nothing_better = carried.better p e open_at;
       }
 
-  none-trades : (told : Option ℕ) → priced_only o.price ≡ told → unwrap_or told 0 ≡ 0 → (side : Side) → traded_on side left ≡ 0
-  none-trades None e zero-price side = untraded-rows side found left carried.kept fresh (λ i d lt more. both_ways _ (ap (λ (t : Option ℕ). takes_opening t (get_or found i d)) e) (carried.limits i d lt more))
-  none-trades (Some p) e zero-price side = absurd (omega (arith, told-bound o.price p e))
+  none-trades : priced_only o.price ≡ None → (side : Side) → traded_on side left ≡ 0
+  none-trades e side = untraded-rows side found left carried.kept fresh (λ i d lt more. both_ways _ (ap (λ (t : Option ℕ). takes_opening t (get_or found i d)) e) (carried.limits i d lt more))
 
   pub opens : ((side : Side) (q : ℕ) → k.after side q ≡ counts_left k.before found left side q) → Opens terms k (report_of o (priced_only o.price) left) found left
   opens counts = record {
@@ -114,6 +103,6 @@ module _ (terms : Terms) (k : Tick) (o : Opening) (found left : List Row) (fresh
     cancelled_buys = refl;
     cancelled_sells = refl;
     away = λ side q. omega (arith, counts side q, none-routed (opposite side) found fresh);
-    untraded = none-trades (priced_only o.price) refl;
-    trade = trade-at (priced_only o.price) refl;
+    untraded = none-trades;
+    trade = λ p e. subst (λ (told : Option ℕ). Trade terms k (report_of o told left) p found left) (sym e) (trade-at p e);
   }

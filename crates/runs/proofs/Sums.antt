@@ -3,7 +3,6 @@ use Rattle.std.proofs.Common.{◌≡◌, ℕ, ◌+◌, Bool, true, false, cond, 
 use Rattle.std.specs.List.{AllByRecursion}
 use Rattle.std.proofs.lemmas.Bool.{and_parts, cond-true, cond-false, cases_Bool, eqb-true}
 use Rattle.std.proofs.ByRecursion.{All-weaker}
-use Rattle.std.proofs.lemmas.List.Sums.{sum_by-cons}
 use Rattle.interest.specs.declared.Side.{Side}
 use Rattle.interest.specs.declared.Side.TheVariants.{Buy, Sell}
 use Rattle.interest.specs.Bounds.{sized}
@@ -17,13 +16,11 @@ use Rattle.book.specs.Rewrites.{SameRows}
 use Rattle.book.specs.Edits.{bid_row, offer_row, quote_rows, sized_quote}
 use Rattle.book.proofs.ReadFacts.{sum_same}
 use Rattle.book.proofs.EditFacts.{order-part}
+use Rattle.levels.proofs.Totals.{total-cons}
 use Rattle.clearing.specs.Openings.{traded_on, routed_on, cancelled_on}
 use Rattle.runs.specs.Histories.{Event, orders_in, quote_in, standing, size_on, back_from}
 use Rattle.runs.specs.Laws.{left_on}
 use Rattle.runs.proofs.Standing.{all-standing}
-
-total-cons : (part : Row → ℕ) (test : Row → Bool) (r : Row) (rows : List Row) → total_of part test (r ∷ rows) ≡ cond (test r) (part r) 0 + total_of part test rows
-total-cons part test r rows = sum_by-cons (λ x. cond (test x) (part x) 0) r rows
 
 -- each contract is in one of the four places
 

@@ -1,5 +1,5 @@
 -- The law over whole runs.
-use Rattle.std.specs.Prelude.{◌≡◌, ℕ, ◌+◌, ◌-◌, ◌<◌, ◌≤◌, Bool, true, false, cond, List, [], ◌∷◌, Ok, Err, Result}
+use Rattle.std.specs.Prelude.{◌≡◌, ℕ, ◌+◌, ◌-◌, ◌<◌, ◌≤◌, Bool, true, false, cond, List, [], ◌∷◌, Some, None, Ok, Err, Result}
 use Rattle.interest.specs.declared.Side.{Side}
 use Rattle.interest.specs.declared.Side.TheVariants.{Buy, Sell}
 use Rattle.interest.specs.Sides.{opposite}
@@ -66,21 +66,21 @@ Answered terms (Ticks k r ∷ h) = (r ≡ tick_answer terms (found_in terms.sett
 abbrev pub mode_of : Kind → Mode
 mode_of kind = cond (routes kind) mode.Routing mode.Exchange
 
--- an opening with a trade, over the rows found and the rows left
-pub record Trade (terms : Terms) (k : Tick) (report : Report) (found left : List Row) : Type 0 where
+-- an opening with a trade at p, over the rows found and the rows left
+pub record Trade (terms : Terms) (k : Tick) (report : Report) (p : ℕ) (found left : List Row) : Type 0 where
   -- each side trades the volume
   pub volume : (side : Side) → traded_on side left ≡ report.volume
   pub some : 0 < report.volume
   -- the price is permitted, in the range, usable, and has just that volume
-  pub on_ladder : terms.permitted report.price ≡ true
-  pub from_low : report.low ≤ report.price
-  pub to_high : report.price ≤ report.high
-  pub usable : usable_at (opening found k.before (mode_of report.kind)) report.price ≡ true
-  pub exact : volume_at (opening found k.before (mode_of report.kind)) report.price ≡ report.volume
+  pub on_ladder : terms.permitted p ≡ true
+  pub from_low : report.range.low ≤ p
+  pub to_high : p ≤ report.range.high
+  pub usable : usable_at (opening found k.before (mode_of report.kind)) p ≡ true
+  pub exact : volume_at (opening found k.before (mode_of report.kind)) p ≡ report.volume
   -- no permitted price of the range that is usable has more
-  pub most : (q : ℕ) → report.low ≤ q → q ≤ report.high → terms.permitted q ≡ true → usable_at (opening found k.before (mode_of report.kind)) q ≡ true → volume_at (opening found k.before (mode_of report.kind)) q ≤ report.volume
+  pub most : (q : ℕ) → report.range.low ≤ q → q ≤ report.range.high → terms.permitted q ≡ true → usable_at (opening found k.before (mode_of report.kind)) q ≡ true → volume_at (opening found k.before (mode_of report.kind)) q ≤ report.volume
   -- the away market shows nothing better than the price
-  pub nothing_better : (side : Side) (q : ℕ) → Better side q report.price → k.after side q ≡ 0
+  pub nothing_better : (side : Side) (q : ℕ) → Better side q p → k.after side q ≡ 0
 
 -- an opening, with or without a trade
 pub record Opens (terms : Terms) (k : Tick) (report : Report) (found left : List Row) : Type 0 where
@@ -94,9 +94,9 @@ pub record Opens (terms : Terms) (k : Tick) (report : Report) (found left : List
   -- away counts are those before less what the rows of the other side sent, never below 0
   pub away : (side : Side) (q : ℕ) → k.after side q ≡ k.before side q - routed_on (opposite side) left
   -- without a price nothing trades
-  pub untraded : report.price ≡ 0 → (side : Side) → traded_on side left ≡ 0
+  pub untraded : report.price ≡ None → (side : Side) → traded_on side left ≡ 0
   -- with a price
-  pub trade : 0 < report.price → Trade terms k report found left
+  pub trade : (p : ℕ) → report.price ≡ Some p → Trade terms k report p found left
 
 -- the opening of a history, over the rows that are now there
 abbrev pub Opening : Terms → List Event → List Row → Type 0

@@ -1,5 +1,5 @@
 -- What a tick answers and leaves.
-use Rattle.std.specs.Prelude.{◌≡◌, ℕ, ◌≤◌, Bool, false, cond, List, Some, None, Ok, Err, Option, Result, nat_lt}
+use Rattle.std.specs.Prelude.{◌≡◌, ℕ, ◌≤◌, cond, List, Some, None, Ok, Err, Option, Result, nat_lt}
 use Rattle.interest.specs.declared.Side.{Side}
 use Rattle.interest.specs.declared.Refusal.{Refusal}
 use Rattle.interest.specs.declared.Refusal.TheVariants.{SeriesOpen, TimeOutOfBounds}
@@ -16,8 +16,8 @@ use Rattle.stages.specs.declared.stage.Decision.TheVariants as decision
 use Rattle.stages.specs.declared.stage.TickAnswer.{TickAnswer}
 use Rattle.stages.specs.declared.stage.TickAnswer.TheVariants.{Waits, Holds, Message, Opened}
 use Rattle.stages.specs.Stages.{is_open, due, stage_by}
-use Rattle.stages.specs.Waits.{reason_to_wait}
-use Rattle.stages.specs.Looks.{scene}
+use Rattle.stages.specs.Waits.{opens_later, reason_to_wait}
+use Rattle.pricing.specs.Scenes.{scene}
 use Rattle.stages.specs.Decisions.{decision_by, waits_or}
 use Rattle.runs.specs.States.{Terms, State}
 
@@ -34,11 +34,6 @@ tick_of time underlying before after = record { time = time; underlying = underl
 -- a count never falls as the price worsens
 abbrev pub Worsening : (Side → ℕ → ℕ) → Type 0
 Worsening shown = (side : Side) (p q : ℕ) → AsGood side p q → shown side p ≤ shown side q
-
--- the underlying opened later than this
-abbrev pub opens_later : ℕ → Option ℕ → Bool
-opens_later time None = false
-opens_later time (Some opened) = nat_lt time opened
 
 -- a time out of bounds, before the last accepted tick, or before the underlying opened
 abbrev pub tick_cause : State → ℕ → Option ℕ → Option Refusal

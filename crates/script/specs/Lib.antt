@@ -1,3 +1,4 @@
+pub mod AnswerTexts
 pub mod Calls
 pub mod Lines
 pub mod Names

@@ -1,23 +1,14 @@
 -- Words and numbers of a line of bytes.
-use Rattle.std.specs.Prelude.{ℕ, ◌+◌, ◌-◌, ◌*◌, Bool, cond, ◌&&◌, ◌||◌, List, [], ◌∷◌, ◌++◌, Some, None, Option, ◌==◌, nat_le}
+use Rattle.std.specs.Prelude.{ℕ, ◌+◌, ◌-◌, ◌*◌, Bool, not, cond, ◌&&◌, ◌||◌, List, [], ◌∷◌, length, filter, Some, None, Option, ◌==◌, nat_le}
+use Rattle.std.specs.List.{slice_split}
 
 -- a space, a tab, or the end of a line
 abbrev pub blank : ℕ → Bool
 blank b = b == 32 || (b == 9 || (b == 13 || b == 10))
 
--- a word before others, unless it is empty
-abbrev pub kept : List ℕ → List (List ℕ) → List (List ℕ)
-kept [] ws = ws
-kept (b ∷ bs) ws = (b ∷ bs) ∷ ws
-
--- the words of a line whose first bytes, with no blank among them, are `front`
-abbrev pub words_after : List ℕ → List ℕ → List (List ℕ)
-words_after front [] = kept front []
-words_after front (b ∷ bs) = cond (blank b) (kept front (words_after [] bs)) (words_after (front ++ b ∷ []) bs)
-
--- the words of a line: what stands between blanks
+-- the words of a line: what stands between blanks, and is not empty
 abbrev pub words_of : List ℕ → List (List ℕ)
-words_of line = words_after [] line
+words_of line = filter (λ word. not (length word == 0)) (slice_split blank line)
 
 -- a number with one digit more, while it fits 32 bits
 abbrev pub digit : ℕ → ℕ → Option ℕ

@@ -1,27 +1,27 @@
-//! The calls that the words of a line make, the first word being the call's name.
+//! The calls that the words of a line make, the first word being the call's name. Each has a function of its own: the words
+//! after the name differ in number and in kind, and one function for all would take a closure for each word.
 ghost use Rattle.std.specs.Prelude.{◌≡◌, map};
-ghost use Rattle.script.specs.Calls.{away_call, best_call, book_call, call_of, clearing, count_call, curve_call, depth_call, depth_level_call, firm_call, help_call, market_call, price_call, ranges_call, row_call, rows_call, send_call, valid_call};
+ghost use Rattle.script.specs.Calls.{away_call, best_call, call_of, clearing, count_call, curve_call, depth_call, firm_call, help_call, level_named, price_call, quotes_named, range_named, row_call, rows_call, send_call};
 
 use crate::names::{
-    ModeName, class_named, has, is, limit_named, market_side, mode_named, order_side, switch_named,
-    word,
+    class_named, close_named, is, limit_named, market_side, mode_named, order_side, switch_named,
 };
 use crate::text::number;
 use interest::{Class, Limit, Side};
+use market::depth::DepthLevel;
+use market::single::Entry;
+use pricing::figures::Mode;
+use ranges::{Quotes, Range};
 
 /// A call of a script; `share` has a type of its own.
 #[derive(Clone, Copy)]
 pub enum Call {
+    /// Shows an entry as the single bid or offer of a side, or none.
     Away {
         side: Side,
-        price: u32,
-        size: u32,
+        entry: Option<Entry>,
     },
-    Depth {
-        side: Side,
-        price: u32,
-        size: u32,
-    },
+    Depth(DepthLevel),
     DepthClear,
     Firm {
         on: bool,
@@ -45,174 +45,50 @@ pub enum Call {
         class: Class,
     },
     RowsClear,
+    /// Chooses a price in a range, at a prior close if there is one.
     Price {
-        mode: ModeName,
-        low: u32,
-        high: u32,
-        close: u32,
+        mode: Mode,
+        range: Range,
+        close: Option<u32>,
     },
     Curve {
-        mode: ModeName,
-        low: u32,
-        high: u32,
+        mode: Mode,
+        range: Range,
     },
-    Ranges {
-        bid: u32,
-        offer: u32,
-    },
-    Valid {
-        bid: u32,
-        offer: u32,
-    },
+    Ranges(Quotes),
+    Valid(Quotes),
     Help,
 }
 
-// Whether the words are a name and `clear`.
+// Whether the words after a name are `clear` alone.
 fn is_clearing(words: &[&[u8]]) -> bool
     ensures { result ≡ clearing (map (λ x. x.now) words.now) }
 {
-    has(words, 2) && is(word(words, 1), "clear")
+    matches!(words, [b"clear"])
+}
+
+fn level_named(words: &[&[u8]]) -> Option<DepthLevel>
+    ensures { result ≡ level_named (map (λ x. x.now) words.now) }
+{
+    let [side, price, size] = words else {
+        return None;
+    };
+    Some(DepthLevel {
+        side: market_side(side)?,
+        price: number(price)?,
+        size: number(size)?,
+    })
 }
 
 fn away_call(words: &[&[u8]]) -> Option<Call>
     ensures { result ≡ away_call (map (λ x. x.now) words.now) }
 {
-    if !has(words, 4) {
-        return None;
-    }
-    let side = market_side(word(words, 1))?;
-    let price = number(word(words, 2))?;
-    let size = number(word(words, 3))?;
-    Some(Call::Away { side, price, size })
-}
-
-fn depth_level_call(words: &[&[u8]]) -> Option<Call>
-    ensures { result ≡ depth_level_call (map (λ x. x.now) words.now) }
-{
-    if !has(words, 4) {
-        return None;
-    }
-    let side = market_side(word(words, 1))?;
-    let price = number(word(words, 2))?;
-    let size = number(word(words, 3))?;
-    Some(Call::Depth { side, price, size })
-}
-
-fn firm_call(words: &[&[u8]]) -> Option<Call>
-    ensures { result ≡ firm_call (map (λ x. x.now) words.now) }
-{
-    if !has(words, 2) {
-        return None;
-    }
-    let on = switch_named(word(words, 1))?;
-    Some(Call::Firm { on })
-}
-
-fn count_call(words: &[&[u8]]) -> Option<Call>
-    ensures { result ≡ count_call (map (λ x. x.now) words.now) }
-{
-    if !has(words, 3) {
-        return None;
-    }
-    let side = market_side(word(words, 1))?;
-    let price = number(word(words, 2))?;
-    Some(Call::Count { side, price })
-}
-
-fn best_call(words: &[&[u8]]) -> Option<Call>
-    ensures { result ≡ best_call (map (λ x. x.now) words.now) }
-{
-    if !has(words, 2) {
-        return None;
-    }
-    let side = market_side(word(words, 1))?;
-    Some(Call::Best { side })
-}
-
-fn send_call(words: &[&[u8]]) -> Option<Call>
-    ensures { result ≡ send_call (map (λ x. x.now) words.now) }
-{
-    if !has(words, 4) {
-        return None;
-    }
-    let side = market_side(word(words, 1))?;
-    let price = number(word(words, 2))?;
-    let contracts = number(word(words, 3))?;
-    Some(Call::Send {
-        side,
-        price,
-        contracts,
+    let level = level_named(words)?;
+    let entry = (level.size != 0).then_some(Entry::from(level));
+    Some(Call::Away {
+        side: level.side,
+        entry,
     })
-}
-
-fn row_call(words: &[&[u8]]) -> Option<Call>
-    ensures { result ≡ row_call (map (λ x. x.now) words.now) }
-{
-    if !has(words, 5) {
-        return None;
-    }
-    let side = order_side(word(words, 1))?;
-    let limit = limit_named(word(words, 2))?;
-    let size = number(word(words, 3))?;
-    let class = class_named(word(words, 4))?;
-    Some(Call::Row {
-        side,
-        limit,
-        size,
-        class,
-    })
-}
-
-fn price_call(words: &[&[u8]]) -> Option<Call>
-    ensures { result ≡ price_call (map (λ x. x.now) words.now) }
-{
-    if !has(words, 5) {
-        return None;
-    }
-    let mode = mode_named(word(words, 1))?;
-    let low = number(word(words, 2))?;
-    let high = number(word(words, 3))?;
-    let close = number(word(words, 4))?;
-    Some(Call::Price {
-        mode,
-        low,
-        high,
-        close,
-    })
-}
-
-fn curve_call(words: &[&[u8]]) -> Option<Call>
-    ensures { result ≡ curve_call (map (λ x. x.now) words.now) }
-{
-    if !has(words, 4) {
-        return None;
-    }
-    let mode = mode_named(word(words, 1))?;
-    let low = number(word(words, 2))?;
-    let high = number(word(words, 3))?;
-    Some(Call::Curve { mode, low, high })
-}
-
-fn ranges_call(words: &[&[u8]]) -> Option<Call>
-    ensures { result ≡ ranges_call (map (λ x. x.now) words.now) }
-{
-    if !has(words, 3) {
-        return None;
-    }
-    let bid = number(word(words, 1))?;
-    let offer = number(word(words, 2))?;
-    Some(Call::Ranges { bid, offer })
-}
-
-fn valid_call(words: &[&[u8]]) -> Option<Call>
-    ensures { result ≡ valid_call (map (λ x. x.now) words.now) }
-{
-    if !has(words, 3) {
-        return None;
-    }
-    let bid = number(word(words, 1))?;
-    let offer = number(word(words, 2))?;
-    Some(Call::Valid { bid, offer })
 }
 
 fn depth_call(words: &[&[u8]]) -> Option<Call>
@@ -221,35 +97,135 @@ fn depth_call(words: &[&[u8]]) -> Option<Call>
     if is_clearing(words) {
         Some(Call::DepthClear)
     } else {
-        depth_level_call(words)
+        level_named(words).map(Call::Depth)
     }
+}
+
+fn firm_call(words: &[&[u8]]) -> Option<Call>
+    ensures { result ≡ firm_call (map (λ x. x.now) words.now) }
+{
+    let [on] = words else {
+        return None;
+    };
+    let on = switch_named(on)?;
+    Some(Call::Firm { on })
+}
+
+fn count_call(words: &[&[u8]]) -> Option<Call>
+    ensures { result ≡ count_call (map (λ x. x.now) words.now) }
+{
+    let [side, price] = words else {
+        return None;
+    };
+    Some(Call::Count {
+        side: market_side(side)?,
+        price: number(price)?,
+    })
+}
+
+fn best_call(words: &[&[u8]]) -> Option<Call>
+    ensures { result ≡ best_call (map (λ x. x.now) words.now) }
+{
+    let [side] = words else {
+        return None;
+    };
+    let side = market_side(side)?;
+    Some(Call::Best { side })
+}
+
+fn send_call(words: &[&[u8]]) -> Option<Call>
+    ensures { result ≡ send_call (map (λ x. x.now) words.now) }
+{
+    let [side, price, contracts] = words else {
+        return None;
+    };
+    Some(Call::Send {
+        side: market_side(side)?,
+        price: number(price)?,
+        contracts: number(contracts)?,
+    })
+}
+
+fn row_call(words: &[&[u8]]) -> Option<Call>
+    ensures { result ≡ row_call (map (λ x. x.now) words.now) }
+{
+    let [side, limit, size, class] = words else {
+        return None;
+    };
+    Some(Call::Row {
+        side: order_side(side)?,
+        limit: limit_named(limit)?,
+        size: number(size)?,
+        class: class_named(class)?,
+    })
 }
 
 fn rows_call(words: &[&[u8]]) -> Option<Call>
     ensures { result ≡ rows_call (map (λ x. x.now) words.now) }
 {
-    if is_clearing(words) {
-        Some(Call::RowsClear)
-    } else {
-        None
-    }
+    is_clearing(words).then_some(Call::RowsClear)
+}
+
+fn range_named(low: &[u8], high: &[u8]) -> Option<Range>
+    ensures { result ≡ range_named low.now high.now }
+{
+    Some(Range {
+        low: number(low)?,
+        high: number(high)?,
+    })
+}
+
+fn price_call(words: &[&[u8]]) -> Option<Call>
+    ensures { result ≡ price_call (map (λ x. x.now) words.now) }
+{
+    let [mode, low, high, close] = words else {
+        return None;
+    };
+    Some(Call::Price {
+        mode: mode_named(mode)?,
+        range: range_named(low, high)?,
+        close: close_named(close)?,
+    })
+}
+
+fn curve_call(words: &[&[u8]]) -> Option<Call>
+    ensures { result ≡ curve_call (map (λ x. x.now) words.now) }
+{
+    let [mode, low, high] = words else {
+        return None;
+    };
+    Some(Call::Curve {
+        mode: mode_named(mode)?,
+        range: range_named(low, high)?,
+    })
+}
+
+fn quotes_named(words: &[&[u8]]) -> Option<Quotes>
+    ensures { result ≡ quotes_named (map (λ x. x.now) words.now) }
+{
+    let [bid, offer] = words else {
+        return None;
+    };
+    Some(Quotes {
+        bid: number(bid)?,
+        offer: number(offer)?,
+    })
 }
 
 fn help_call(words: &[&[u8]]) -> Option<Call>
     ensures { result ≡ help_call (map (λ x. x.now) words.now) }
 {
-    if has(words, 1) && is(word(words, 0), "help") {
-        Some(Call::Help)
-    } else {
-        None
-    }
+    words.is_empty().then_some(Call::Help)
 }
 
-// The calls on the away market.
-fn market_call(words: &[&[u8]]) -> Option<Call>
-    ensures { result ≡ market_call (map (λ x. x.now) words.now) }
+/// The call that the words of a line make, or none.
+pub fn call_of(words: &[&[u8]]) -> Option<Call>
+    ensures { result ≡ call_of (map (λ x. x.now) words.now) }
 {
-    let name = word(words, 0);
+    let [name, words @ ..] = words else {
+        return None;
+    };
+    // A `match` on byte strings was tried here; it is proved byte by byte, and the proof did not close.
     if is(name, "away") {
         away_call(words)
     } else if is(name, "depth") {
@@ -262,17 +238,7 @@ fn market_call(words: &[&[u8]]) -> Option<Call>
         best_call(words)
     } else if is(name, "send") {
         send_call(words)
-    } else {
-        None
-    }
-}
-
-// The calls on rows, prices and ranges.
-fn book_call(words: &[&[u8]]) -> Option<Call>
-    ensures { result ≡ book_call (map (λ x. x.now) words.now) }
-{
-    let name = word(words, 0);
-    if is(name, "row") {
+    } else if is(name, "row") {
         row_call(words)
     } else if is(name, "rows") {
         rows_call(words)
@@ -281,23 +247,12 @@ fn book_call(words: &[&[u8]]) -> Option<Call>
     } else if is(name, "curve") {
         curve_call(words)
     } else if is(name, "ranges") {
-        ranges_call(words)
+        quotes_named(words).map(Call::Ranges)
     } else if is(name, "valid") {
-        valid_call(words)
+        quotes_named(words).map(Call::Valid)
+    } else if is(name, "help") {
+        help_call(words)
     } else {
         None
-    }
-}
-
-/// The call that the words of a line make, or none.
-pub fn call_of(words: &[&[u8]]) -> Option<Call>
-    ensures { result ≡ call_of (map (λ x. x.now) words.now) }
-{
-    match market_call(words) {
-        Some(call) => Some(call),
-        None => match book_call(words) {
-            Some(call) => Some(call),
-            None => help_call(words),
-        },
     }
 }

@@ -1,73 +1,69 @@
 //! The call `share RULE QUANTITY CLASS SIZE [CLASS SIZE ..]`: a quantity divided among the rows of a level.
-ghost use Rattle.std.specs.Prelude.{◌≡◌, ◌<◌, [], map, length, drop};
+ghost use Rattle.std.specs.Prelude.{◌≡◌, [], map};
 ghost use Rattle.std.specs.Option.{option_map};
 ghost use Rattle.sharing.specs.Levels.{rows_of};
-ghost use Rattle.sharing.specs.Totals.{padded};
-ghost use Rattle.script.specs.Shares.{holding_at, rows_from, share_call, asked, shares_by};
+ghost use Rattle.script.specs.Shares.{holding_of, rows_from, share_call, asked, shares_by};
 
-use crate::names::{RuleName, class_named, fewer, rule_named, word};
+use crate::names::{class_named, rule_named};
 use crate::text::number;
-use sharing::{Holding, Level, SharingRule, SizeProRata, TimePriority};
+use arrayvec::ArrayVec;
+use choices::NamedRule;
+use sharing::{Holding, LEVEL_ROWS, Level, SharingRule};
 
 /// A quantity to be divided by a rule among the rows of a level.
 #[derive(Drop)]
 pub struct ShareCall {
-    pub rule: RuleName,
+    pub rule: NamedRule,
     pub quantity: u32,
     pub level: Level,
 }
 
-// The row that two words tell: a class and a size.
-fn holding_at(words: &[&[u8]], at: usize) -> Option<Holding>
-    requires { at < length words.now }
-    ensures { result ≡ holding_at (map (λ x. x.now) words.now) at }
+// The row that a class and a size tell.
+fn holding_of(class: &[u8], size: &[u8]) -> Option<Holding>
+    ensures { result ≡ holding_of class.now size.now }
 {
-    let class = class_named(word(words, at))?;
-    let size = number(word(words, at + 1))?;
-    Some(Holding { class, size })
+    Some(Holding {
+        class: class_named(class)?,
+        size: number(size)?,
+    })
 }
 
-// The rows that the words from the fourth on tell, each in bounds, at most as many as a level holds.
+// The rows that words tell, each in bounds, at most as many as a level holds.
 fn level_of(words: &[&[u8]]) -> Option<Level>
-    ensures { option_map rows_of result ≡ rows_from [] (drop 3 (map (λ x. x.now) words.now)) }
+    ensures { option_map rows_of result ≡ rows_from [] (map (λ x. x.now) words.now) }
 {
     let mut level = Level::new();
-    let mut at = 3;
-    while at < words.len() {
-        let holding = holding_at(words, at)?;
-        if level.push(holding).is_err() {
+    for row in words.chunks(2) {
+        let [class, size] = row else {
             return None;
-        }
-        at += 2;
+        };
+        level.push(holding_of(class, size)?).ok()?;
     }
     Some(level)
 }
 
-/// The call that the words make: a rule, a quantity and at least one row.
+/// The call that the words make: after its name a rule, a quantity and at least one row.
 pub fn share_call(words: &[&[u8]]) -> Option<ShareCall>
     ensures { option_map asked result ≡ share_call (map (λ x. x.now) words.now) }
 {
-    if fewer(words, 5) {
+    let [_, rule, quantity, rows @ ..] = words else {
+        return None;
+    };
+    if rows.is_empty() {
         return None;
     }
-    let rule = rule_named(word(words, 1))?;
-    let quantity = number(word(words, 2))?;
-    let level = level_of(words)?;
     Some(ShareCall {
-        rule,
-        quantity,
-        level,
+        rule: rule_named(rule)?,
+        quantity: number(quantity)?,
+        level: level_of(rows)?,
     })
 }
 
 impl ShareCall {
-    /// What each row gets, in row order, and 0 at every place past the last row.
-    pub fn shares(&self) -> [u32; 128]
-        ensures { result ≡ padded (shares_by (asked self.now)) }
+    /// What each row gets, in row order.
+    pub fn shares(&self) -> ArrayVec<u32, LEVEL_ROWS>
+        ensures { result.items ≡ shares_by (asked self.now) }
     {
-        match self.rule {
-            RuleName::Time => TimePriority.share(self.quantity, &self.level),
-            RuleName::ProRata => SizeProRata.share(self.quantity, &self.level),
-        }
+        self.rule.share(self.quantity, &self.level)
     }
 }

@@ -7,8 +7,9 @@ use Rattle.interest.specs.declared.Limit.{Limit}
 use Rattle.interest.specs.declared.Limit.TheVariants.{Market, At}
 use Rattle.interest.specs.Sides.{opposite}
 use Rattle.ladder.specs.Rungs.{least_at_or_above, greatest_at_or_below}
+use Rattle.market.specs.Counts.{reaches}
 use Rattle.book.specs.declared.row.Row.{Row}
-use Rattle.book.specs.Ranks.{takes_price, through_price}
+use Rattle.book.specs.Ranks.{through_price}
 use Rattle.book.specs.Rewrites.{cancel_row, rest_row}
 use Rattle.settling.specs.declared.Edges.{Edges}
 use Rattle.settling.specs.declared.Resting.{Resting}
@@ -21,10 +22,10 @@ edge_of e Sell = e.sells
 abbrev pub cancel_through : Edges → Row → Row
 cancel_through edges r = cond (through_price r.side (edge_of edges r.side) r.limit) (cancel_row r) r
 
--- the permitted price next to an away price, short of it: the greatest below an offer, the least above a bid; 0 for none
-abbrev pub beside : (ℕ → Bool) → Side → ℕ → ℕ
-beside permitted Buy a = unwrap_or (greatest_at_or_below permitted (a - 1)) 0
-beside permitted Sell a = unwrap_or (least_at_or_above permitted (a + 1)) 0
+-- the permitted price next to an away price, short of it: the greatest below an offer, the least above a bid
+abbrev pub beside : (ℕ → Bool) → Side → ℕ → Option ℕ
+beside permitted Buy a = greatest_at_or_below permitted (a - 1)
+beside permitted Sell a = least_at_or_above permitted (a + 1)
 
 abbrev pub InBounds : Option ℕ → Type 0
 InBounds None = Unit {0}
@@ -33,11 +34,11 @@ InBounds (Some a) = a ≤ 100000
 abbrev pub rests_at : ℕ → ℕ → Resting
 rests_at works seen = record { working = works; shown = seen }
 
--- where a row of a limit rests: there, or, if it reaches the away price, working at that and shown beside it
+-- where a row of a limit rests: there, or, if it reaches the away price, working at that and shown beside it, at 0 where no price is
 abbrev pub resting_at : (ℕ → Bool) → Side → Option ℕ → Limit → Resting
 resting_at permitted side away Market = rests_at 0 0
 resting_at permitted side None (At x) = rests_at x x
-resting_at permitted side (Some a) (At x) = cond (takes_price side a (At x)) (rests_at a (beside permitted side a)) (rests_at x x)
+resting_at permitted side (Some a) (At x) = cond (reaches (opposite side) a x) (rests_at a (unwrap_or (beside permitted side a) 0)) (rests_at x x)
 
 -- with nothing left, at 0 and 0
 abbrev pub place_of : (ℕ → Bool) → (Side → Option ℕ) → Row → Resting

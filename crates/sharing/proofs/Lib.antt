@@ -1,3 +1,5 @@
 -- Lemmas that several proofs share.
-mod Pushes
-mod RankSteps
+pub mod Pushes
+pub mod Sums
+pub mod ClaimFacts
+pub mod Choosing

@@ -1,7 +1,7 @@
 -- What a level stands for: its rows, in row order.
-use Rattle.std.specs.Prelude.{List, take}
+use Rattle.std.specs.Prelude.{List}
 use Rattle.sharing.specs.declared.level.Holding.{Holding}
 use Rattle.sharing.specs.declared.level.Level.{Level}
 
 abbrev pub rows_of : Level → List Holding
-rows_of l = take l.count l.rows
+rows_of l = l.rows.items

@@ -5,6 +5,7 @@ pub mod Totals
 pub mod Sizes
 pub mod InOrder
 pub mod ProRata
+pub mod Ranked
 pub mod Promises
 -- The lemmas by which the rules prove the laws of sharing.
 pub mod Keeping
@@ -15,4 +16,3 @@ pub mod RankTotals
 pub mod RankPlaces
 pub mod Choosings
 pub mod Turns
-pub mod Pads

@@ -1,9 +1,8 @@
 -- Sharing by size.
 use Rattle.std.specs.Prelude.{ℕ, suc, ◌+◌, ◌-◌, ◌*◌, ◌/◌, ◌%◌, min, cond, List, [], ◌∷◌, ◌++◌, nat_le}
 use Rattle.sharing.specs.declared.level.Holding.{Holding}
-use Rattle.sharing.specs.declared.among.Among.TheVariants.{Customers, Others}
 use Rattle.sharing.specs.Totals.{total}
-use Rattle.sharing.specs.Sizes.{of_customer, sizes_among}
+use Rattle.sharing.specs.Sizes.{of_customer, of_other, sizes_where}
 use Rattle.sharing.specs.InOrder.{in_order}
 
 -- size × quantity / whole, rounded up: one more where something is left over
@@ -34,8 +33,8 @@ chosen (h ∷ rows) (c ∷ cs) (o ∷ os) = cond (of_customer h.class) c o ∷ c
 
 -- what is left of a quantity after the customers
 abbrev pub after_customers : ℕ → List Holding → ℕ
-after_customers q rows = q - total (sizes_among Customers rows)
+after_customers q rows = q - total (sizes_where of_customer rows)
 
 -- the customers in order, and what is left in proportion to the sizes of the others
 abbrev pub size_shares : ℕ → List Holding → List ℕ
-size_shares q rows = chosen rows (in_order q (sizes_among Customers rows)) (pro_rata (after_customers q rows) (sizes_among Others rows))
+size_shares q rows = chosen rows (in_order q (sizes_where of_customer rows)) (pro_rata (after_customers q rows) (sizes_where of_other rows))

@@ -1,21 +1,20 @@
 -- What sharing by size comes to, row by row.
 use Rattle.std.specs.Prelude.{◌≡◌, ℕ, suc, ◌+◌, ◌-◌, ◌*◌, ◌<◌, ◌≤◌, min, Bool, cond, ◌&&◌, ◌||◌, List, [], ◌∷◌, ◌==◌, nat_lt, slice_index}
 use Rattle.sharing.specs.declared.level.Holding.{Holding}
-use Rattle.sharing.specs.declared.among.Among.TheVariants.{Customers, Others}
 use Rattle.sharing.specs.Totals.{total}
-use Rattle.sharing.specs.Sizes.{sizes_among}
+use Rattle.sharing.specs.Sizes.{of_customer, of_other, sizes_where}
 use Rattle.sharing.specs.ProRata.{part, after_customers}
 
 -- the size of the row at a place if it is a customer's, or another's: else 0
 abbrev pub customer_at : List Holding → ℕ → ℕ
-customer_at rows i = slice_index (sizes_among Customers rows) i
+customer_at rows i = slice_index (sizes_where of_customer rows) i
 
 abbrev pub other_at : List Holding → ℕ → ℕ
-other_at rows i = slice_index (sizes_among Others rows) i
+other_at rows i = slice_index (sizes_where of_other rows) i
 
 -- the contracts of the others, and how many contracts go to them
 abbrev pub others_total : List Holding → ℕ
-others_total rows = total (sizes_among Others rows)
+others_total rows = total (sizes_where of_other rows)
 
 abbrev pub to_others : ℕ → List Holding → ℕ
 to_others q rows = min (after_customers q rows) (others_total rows)

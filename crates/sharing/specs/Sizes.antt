@@ -1,10 +1,8 @@
--- The sizes of rows, of all of them or of some.
-use Rattle.std.specs.Prelude.{ℕ, Bool, true, false, cond, not, List, map}
+-- The sizes of rows, of those whose class counts.
+use Rattle.std.specs.Prelude.{◌≡◌, ℕ, Bool, true, false, cond, not, List, map}
 use Rattle.interest.specs.declared.Class.{Class}
 use Rattle.interest.specs.declared.Class.TheVariants.{Routable, Fixed, Other}
 use Rattle.sharing.specs.declared.level.Holding.{Holding}
-use Rattle.sharing.specs.declared.among.Among.{Among}
-use Rattle.sharing.specs.declared.among.Among.TheVariants.{All, Customers, Others}
 
 -- Routable and fixed interest is a customer's.
 abbrev pub of_customer : Class → Bool
@@ -12,15 +10,16 @@ of_customer Routable = true
 of_customer Fixed = true
 of_customer Other = false
 
--- whether a row of a class counts
-abbrev pub counted : Among → Class → Bool
-counted All class = true
-counted Customers class = of_customer class
-counted Others class = not (of_customer class)
+abbrev pub of_other : Class → Bool
+of_other class = not (of_customer class)
 
--- the size of a row if it counts, else 0
-abbrev pub size_among : Among → Holding → ℕ
-size_among among h = cond (counted among h.class) h.size 0
+-- what a predicate over classes may answer is what a test says
+abbrev pub AnswersAs : (Class → Bool) → (Class → Bool → Type 0) → Type 0
+AnswersAs test answers = (class : Class) (b : Bool) → answers class b → b ≡ test class
 
-abbrev pub sizes_among : Among → List Holding → List ℕ
-sizes_among among rows = map (size_among among) rows
+-- the size of a row if its class counts, else 0
+abbrev pub size_where : (Class → Bool) → Holding → ℕ
+size_where counts h = cond (counts h.class) h.size 0
+
+abbrev pub sizes_where : (Class → Bool) → List Holding → List ℕ
+sizes_where counts rows = map (size_where counts) rows

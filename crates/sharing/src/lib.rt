@@ -1,14 +1,13 @@
 //! How a quantity of contracts is shared among the rows of a price level.
 #![tactic(auto)]
 
-mod among;
-mod fills;
 pub mod level;
 mod parts;
 mod ranks;
 mod rows;
 pub mod rule;
 pub mod size;
+mod sizes;
 pub mod time;
 
 pub use level::{Holding, LEVEL_ROWS, Level, PushError};
@@ -39,18 +38,20 @@ mod tests {
         level
     }
 
-    fn first_four(shares: [u32; LEVEL_ROWS]) -> (u32, u32, u32, u32) {
-        (shares[0], shares[1], shares[2], shares[3])
-    }
-
     #[test]
     fn time_serves_rows_in_order(rt: HostRuntime) {
-        assert_eq!(rt; first_four(TimePriority.share(10, &mixed())), (4, 6, 0, 0));
+        assert_eq!(rt;
+            TimePriority.share(10, &mixed()).as_slice(),
+            [4, 6, 0, 0].as_slice()
+        );
     }
 
     #[test]
     fn size_serves_customers_then_parts(rt: HostRuntime) {
-        assert_eq!(rt; first_four(SizeProRata.share(10, &mixed())), (4, 3, 2, 1));
+        assert_eq!(rt;
+            SizeProRata.share(10, &mixed()).as_slice(),
+            [4, 3, 2, 1].as_slice()
+        );
     }
 
     // 5 × 5 / 10 rounds up to 3.
@@ -59,7 +60,7 @@ mod tests {
         let mut level = Level::new();
         let _ = level.push(row(Class::Other, 5));
         let _ = level.push(row(Class::Other, 5));
-        assert_eq!(rt; first_four(SizeProRata.share(5, &level)), (3, 2, 0, 0));
+        assert_eq!(rt; SizeProRata.share(5, &level).as_slice(), [3, 2].as_slice());
     }
 
     #[test]

@@ -1,64 +1,83 @@
-//! Sharing among sizes, the largest first.
-ghost use Rattle.std.specs.Prelude.{◌≡◌, ◌^◌, ◌<◌, ◌≤◌, cond, [], map, length, nat_le};
-ghost use Rattle.sharing.specs.Totals.{total};
-ghost use Rattle.sharing.specs.ProRata.{part, claimed, by_rank, pro_rata};
+//! Sharing among claims, the largest size first.
+ghost use Rattle.std.specs.Prelude.{◌≡◌, ◌^◌, ◌<◌, ◌≤◌, [], map, min, sum};
+ghost use Rattle.sharing.specs.ProRata.{part};
+ghost use Rattle.sharing.specs.Ranked.{sizes_in, parts_in, claimed_in, ranked};
 
-use crate::parts::{parts_of, total_of};
+use crate::level::LEVEL_ROWS;
+use crate::parts::Ratio;
+use crate::sizes::Sizes;
+use arrayvec::ArrayVec;
 
-/// A size's part if the size is `from` or larger, else 0.
-fn claim(from: u32, size: u32, its_part: u32) -> u32
-    ensures { result ≡ cond (nat_le from size) its_part 0 }
-{
-    if from <= size { its_part } else { 0 }
+/// A size, and the part of a quantity that it claims.
+#[derive(Clone, Copy, Default)]
+pub(crate) struct Claim {
+    size: u32,
+    part: u32,
 }
 
-/// The parts of the sizes that are `from` or larger.
-fn claimed_from(quantity: u32, whole: u32, from: u32, sizes: &[u32], parts: &[u32]) -> u32
-    requires parts { parts.now ≡ map (part quantity whole) sizes.now }
-    requires small { total parts.now < 2 ^ 32 }
-    ensures { result ≡ claimed (part quantity whole) from sizes.now }
+/// Claims on a quantity, in row order; together they fit a sum.
+#[derive(Drop)]
+pub(crate) struct Claims {
+    given: u32,
+    each: ArrayVec<Claim, LEVEL_ROWS>,
+    ghost sizes: { sum (sizes_in each.items) ≤ 128000000 },
+    ghost parts: { sum (parts_in each.items) ≤ 128000000 },
+}
+
+/// The parts of the claims whose size is `from` or larger.
+fn claimed_from(from: u32, claims: &[Claim]) -> u32
+    requires { sum (parts_in claims.now) < 2 ^ 32 }
+    ensures { result ≡ claimed_in from claims.now }
 {
-    let mut sum = 0;
-    for i in 0..sizes.len() {
-        sum += claim(from, sizes[i], parts[i]);
+    claims
+        .iter()
+        .filter(|claim| from <= claim.size)
+        .map(|claim| claim.part)
+        .sum()
+}
+
+/// Each size with its part of what is given.
+fn claims_of(ratio: Ratio, sizes: &Sizes) -> ArrayVec<Claim, LEVEL_ROWS>
+    ensures sizes { sizes_in result.items ≡ sizes.now.each.items }
+    ensures parts { parts_in result.items ≡ map (part ratio.given ratio.whole) sizes.now.each.items }
+{
+    let mut each = ArrayVec::new();
+    for size in sizes.each.iter() {
+        let size = *size;
+        each.push(Claim {
+            size,
+            part: ratio.part(size),
+        });
     }
-    sum
+    each
 }
 
-/// Each size's part, or what is left of the quantity once those before it have theirs.
-fn share_by_rank(quantity: u32, whole: u32, sizes: &[u32], parts: &[u32], shares: &mut [u32])
-    requires long { length shares.old ≡ length sizes.now }
-    requires same { length parts.now ≡ length sizes.now }
-    requires parts { parts.now ≡ map (part quantity whole) sizes.now }
-    requires within { quantity ≤ whole }
-    requires small { total sizes.now ≤ 128000000 }
-    ensures { shares.new ≡ by_rank (part quantity whole) quantity [] sizes.now }
-{
-    let count = sizes.len();
-    for i in 0..count {
-        let size = sizes[i];
-        let earlier = claimed_from(quantity, whole, size, &sizes[0..i], &parts[0..i]);
-        let later = claimed_from(
-            quantity,
-            whole,
-            size + 1,
-            &sizes[i + 1..count],
-            &parts[i + 1..count],
-        );
-        shares[i] = parts[i].min(quantity.saturating_sub(earlier + later));
+impl Claims {
+    /// Of a quantity, or of the whole if that is less, each size claims its part.
+    pub(crate) fn on(quantity: u32, sizes: &Sizes) -> Claims
+        ensures given { result.given ≡ min quantity sizes.now.whole }
+        ensures sizes { sizes_in result.each.items ≡ sizes.now.each.items }
+        ensures parts { parts_in result.each.items ≡ map (part (min quantity sizes.now.whole) sizes.now.whole) sizes.now.each.items }
+    {
+        let ratio = Ratio::of(quantity, sizes.whole);
+        Claims {
+            given: ratio.given,
+            each: claims_of(ratio, sizes),
+        }
     }
-}
 
-/// A quantity, or the whole if that is less, in proportion to the sizes.
-pub(crate) fn share_pro_rata(quantity: u32, sizes: &[u32], shares: &mut [u32])
-    requires long { length shares.old ≡ length sizes.now }
-    requires few { length sizes.now ≤ 128 }
-    requires small { total sizes.now ≤ 128000000 }
-    ensures { shares.new ≡ pro_rata quantity sizes.now }
-{
-    let whole = total_of(sizes);
-    let given = quantity.min(whole);
-    let count = sizes.len();
-    let parts = parts_of(given, whole, sizes);
-    share_by_rank(given, whole, sizes, &parts[0..count], shares);
+    /// Each claim gets its part, or what is left of the quantity once those before it have theirs.
+    pub(crate) fn by_rank(&self) -> ArrayVec<u32, LEVEL_ROWS>
+        ensures { result.items ≡ ranked self.now.given [] self.now.each.items }
+    {
+        let claims = self.each.as_slice();
+        let mut shares = ArrayVec::new();
+        for (i, claim) in claims.iter().enumerate() {
+            let earlier = claimed_from(claim.size, &claims[..i]);
+            let later = claimed_from(claim.size + 1, &claims[i + 1..]);
+            let left = self.given.saturating_sub(earlier + later);
+            shares.push(claim.part.min(left));
+        }
+        shares
+    }
 }

@@ -3,13 +3,9 @@ ghost use Rattle.std.specs.Prelude.{◌≡◌, ◌≤◌, true, [], ◌∷◌, �
 ghost use Rattle.sharing.specs.Holdings.{all_sized, push_answer};
 ghost use Rattle.sharing.specs.Levels.{rows_of};
 
-use crate::level::{Holding, LEVEL_ROWS, Level, PushError};
-use interest::{Class, is_size};
-
-const NO_ROW: Holding = Holding {
-    class: Class::Other,
-    size: 0,
-};
+use crate::level::{Holding, Level, PushError};
+use arrayvec::ArrayVec;
+use interest::is_size;
 
 impl Level {
     /// A level without rows.
@@ -17,8 +13,7 @@ impl Level {
         ensures { rows_of result ≡ [] }
     {
         Level {
-            rows: [NO_ROW; LEVEL_ROWS],
-            count: 0,
+            rows: ArrayVec::new(),
         }
     }
 
@@ -28,7 +23,7 @@ impl Level {
         ensures few { length result.now ≤ 128 }
         ensures sound { all_sized result.now ≡ true }
     {
-        &self.rows[0..self.count]
+        self.rows.as_slice()
     }
 
     /// Adds a row at the end, or leaves the level as it was and says why.
@@ -39,12 +34,7 @@ impl Level {
         if !is_size(holding.size) {
             return Err(PushError::SizeOutOfBounds);
         }
-        let at = self.count;
-        if at >= LEVEL_ROWS {
-            return Err(PushError::LevelFull);
-        }
-        self.rows[at] = holding;
-        self.count = at + 1;
+        self.rows.try_push(holding)?;
         Ok(())
     }
 }

@@ -2,18 +2,19 @@
 ghost use Rattle.std.specs.Prelude.{◌≡◌, ℕ, min, List, length};
 ghost use Rattle.sharing.specs.declared.level.Holding.{Holding};
 ghost use Rattle.sharing.specs.Levels.{rows_of};
-ghost use Rattle.sharing.specs.Totals.{total, contracts, EachAtMost, padded};
+ghost use Rattle.sharing.specs.Totals.{total, contracts, EachAtMost};
 
 use crate::level::{LEVEL_ROWS, Level};
+use arrayvec::ArrayVec;
 
 /// How a quantity is divided among the rows of a level.
 pub trait SharingRule {
     // The share of each row, in row order.
     ghost shares: { Self → ℕ → List Holding → List ℕ };
 
-    /// The shares of the level's rows in their order, and 0 at every place past the last row.
-    fn share(&self, quantity: u32, level: &Level) -> [u32; LEVEL_ROWS]
-        ensures { result ≡ padded (shares self.now quantity (rows_of level.now)) };
+    /// The shares of the level's rows, in their order.
+    fn share(&self, quantity: u32, level: &Level) -> ArrayVec<u32, LEVEL_ROWS>
+        ensures { result.items ≡ shares self.now quantity (rows_of level.now) };
 
     // One share a row.
     ghost each: { (x : Self) (q : ℕ) (rows : List Holding) → length (shares x q rows) ≡ length rows };

@@ -19,8 +19,7 @@ use Rattle.pricing.specs.declared.figures.Mode.TheVariants.{Exchange, Routing}
 use Rattle.pricing.specs.declared.figures.Unmatched.{Unmatched}
 use Rattle.pricing.specs.declared.figures.Unmatched.TheVariants.{Nothing, Buys, Sells}
 use Rattle.pricing.specs.declared.search.Choice.{Choice}
-use Rattle.pricing.specs.Prices.{opening}
-use Rattle.pricing.specs.Choosing.{choice_in}
+use Rattle.pricing.specs.Scenes.{scene, chosen_in}
 use Rattle.ranges.specs.declared.Range.{Range}
 use Rattle.ranges.specs.Bands.{valid_quote}
 use Rattle.ranges.specs.Ranges.{opening_range}
@@ -34,17 +33,20 @@ offering n p = record { bid = None; offer = Some (record { price = p; size = n }
 abbrev nobody : Side → ℕ → ℕ
 nobody side p = 0
 
+abbrev between : ℕ → ℕ → Range
+between low high = record { low = low; high = high }
+
 -- nothing unmatched is through the price in any of the cases
 abbrev choice : ℕ → ℕ → Unmatched → Option Choice
 choice p v unmatched = Some (record { price = p; volume = v; unmatched = unmatched; through = 0 })
 
 -- in an exchange-only opening
-abbrev alone : ℕ → List Row → Option Choice
-alone close rows = choice_in priced (opening rows nobody Exchange) 100 110 close
+abbrev alone : Option ℕ → List Row → Option Choice
+alone close rows = chosen_in (scene priced close rows nobody) Exchange (between 100 110)
 
 -- in a routing one, against an away offer
 abbrev against : SingleMarket → List Row → Option Choice
-against away rows = choice_in priced (opening rows (single_shown away) Routing) 100 110 0
+against away rows = chosen_in (scene priced None rows (single_shown away)) Routing (between 100 110)
 
 abbrev crossing : ℕ → List Row
 crossing n = order Buy Other 100 104 ∷ order Buy Other 50 110 ∷ order Sell Other 50 100 ∷ order Sell Other n 105 ∷ []
@@ -68,16 +70,13 @@ left p = paired p - counted paired 103 25
 abbrev quoted : ℕ → ℕ → Range
 quoted bid offer = opening_range (record { bid = bid; offer = offer }) (record { bid = None; offer = None })
 
-abbrev between : ℕ → ℕ → Range
-between low high = record { low = low; high = high }
-
 pub record WorkedCases : Type 0 where
-  pub one_side_larger : alone 0 (order Buy Other 100 110 ∷ order Sell Other 50 100 ∷ []) ≡ choice 110 50 (Buys 50)
-  pub both_equal : alone 0 (order Buy Other 100 110 ∷ order Sell Other 100 100 ∷ []) ≡ choice 105 100 Nothing
-  pub half_cent : alone 0 (order Buy Other 10 105 ∷ order Sell Other 10 100 ∷ []) ≡ choice 103 10 Nothing
-  pub half_cent_by_close : alone 90 (order Buy Other 10 105 ∷ order Sell Other 10 100 ∷ []) ≡ choice 102 10 Nothing
-  pub tie : alone 0 (crossing 100) ≡ choice 104 50 (Buys 100)
-  pub more_sells : alone 0 (crossing 120) ≡ choice 105 50 (Sells 120)
+  pub one_side_larger : alone None (order Buy Other 100 110 ∷ order Sell Other 50 100 ∷ []) ≡ choice 110 50 (Buys 50)
+  pub both_equal : alone None (order Buy Other 100 110 ∷ order Sell Other 100 100 ∷ []) ≡ choice 105 100 Nothing
+  pub half_cent : alone None (order Buy Other 10 105 ∷ order Sell Other 10 100 ∷ []) ≡ choice 103 10 Nothing
+  pub half_cent_by_close : alone (Some 90) (order Buy Other 10 105 ∷ order Sell Other 10 100 ∷ []) ≡ choice 102 10 Nothing
+  pub tie : alone None (crossing 100) ≡ choice 104 50 (Buys 100)
+  pub more_sells : alone None (crossing 120) ≡ choice 105 50 (Sells 120)
   pub better_offers : against (offering 25 103) routable ≡ choice 105 25 (Sells 15)
   pub too_many_better : against (offering 31 103) routable ≡ None
   pub pro_rata : size_shares 10 (holding Fixed 4 ∷ holding Other 7 ∷ holding Other 5 ∷ holding Other 3 ∷ []) ≡ 4 ∷ 3 ∷ 2 ∷ 1 ∷ []

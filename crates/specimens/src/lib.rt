@@ -16,7 +16,8 @@ mod tests {
     use ladder::EveryCent;
     use market::single::{Entry, SingleMarket};
     use pricing::figures::Mode;
-    use pricing::search::{Choice, choose};
+    use pricing::scene::Scene;
+    use ranges::Range;
 
     fn add(book: &mut Book, side: Side, class: Class, size: u32, price: u32) {
         let number = book.rows().len() as u32 + 1;
@@ -35,15 +36,34 @@ mod tests {
     };
 
     // Price and volume in the range 100 to 110, or none.
-    fn told(choice: Option<Choice>) -> Option<(u32, u32)> {
-        match choice {
-            Some(c) => Some((c.price, c.volume)),
-            None => None,
-        }
+    fn told(
+        book: &Book,
+        close: Option<u32>,
+        market: &SingleMarket,
+        mode: Mode,
+    ) -> Option<(u32, u32)> {
+        let scene = Scene {
+            ladder: &EveryCent,
+            close,
+            book,
+            market,
+        };
+        let range = Range {
+            low: 100,
+            high: 110,
+        };
+        scene.choose(mode, range).map(|c| (c.price, c.volume))
     }
 
-    fn alone(book: &Book, close: u32) -> Option<(u32, u32)> {
-        told(choose(&EveryCent, book, &NOBODY, Mode::Exchange, 100, 110, close))
+    fn alone(book: &Book, close: Option<u32>) -> Option<(u32, u32)> {
+        told(book, close, &NOBODY, Mode::Exchange)
+    }
+
+    fn offering(price: u32, size: u32) -> SingleMarket {
+        SingleMarket {
+            bid: None,
+            offer: Some(Entry { price, size }),
+        }
     }
 
     fn two(buys: u32, at: u32, sells: u32) -> Book {
@@ -55,14 +75,14 @@ mod tests {
 
     #[test]
     fn one_side_larger_and_both_equal(rt: HostRuntime) {
-        assert_eq!(rt; alone(&two(100, 110, 50), 0), Some((110, 50)));
-        assert_eq!(rt; alone(&two(100, 110, 100), 0), Some((105, 100)));
+        assert_eq!(rt; alone(&two(100, 110, 50), None), Some((110, 50)));
+        assert_eq!(rt; alone(&two(100, 110, 100), None), Some((105, 100)));
     }
 
     #[test]
     fn half_cent_by_the_prior_close(rt: HostRuntime) {
-        assert_eq!(rt; alone(&two(10, 105, 10), 0), Some((103, 10)));
-        assert_eq!(rt; alone(&two(10, 105, 10), 90), Some((102, 10)));
+        assert_eq!(rt; alone(&two(10, 105, 10), None), Some((103, 10)));
+        assert_eq!(rt; alone(&two(10, 105, 10), Some(90)), Some((102, 10)));
     }
 
     fn four(last: u32) -> Book {
@@ -76,8 +96,8 @@ mod tests {
 
     #[test]
     fn more_unmatched_and_a_tie(rt: HostRuntime) {
-        assert_eq!(rt; alone(&four(100), 0), Some((104, 50)));
-        assert_eq!(rt; alone(&four(120), 0), Some((105, 50)));
+        assert_eq!(rt; alone(&four(100), None), Some((104, 50)));
+        assert_eq!(rt; alone(&four(120), None), Some((105, 50)));
     }
 
     #[test]
@@ -86,27 +106,9 @@ mod tests {
         add(&mut book, Side::Buy, Class::Routable, 30, 110);
         add(&mut book, Side::Buy, Class::Other, 20, 110);
         add(&mut book, Side::Sell, Class::Other, 40, 105);
-        let some = SingleMarket {
-            bid: None,
-            offer: Some(Entry {
-                price: 103,
-                size: 25,
-            }),
-        };
-        let many = SingleMarket {
-            bid: None,
-            offer: Some(Entry {
-                price: 103,
-                size: 31,
-            }),
-        };
-        assert_eq!(rt;
-            told(choose(&EveryCent, &book, &some, Mode::Routing, 100, 110, 0)),
-            Some((105, 25))
-        );
-        assert_eq!(rt;
-            told(choose(&EveryCent, &book, &many, Mode::Routing, 100, 110, 0)),
-            None
-        );
+        let some = told(&book, None, &offering(103, 25), Mode::Routing);
+        let many = told(&book, None, &offering(103, 31), Mode::Routing);
+        assert_eq!(rt; some, Some((105, 25)));
+        assert_eq!(rt; many, None);
     }
 }

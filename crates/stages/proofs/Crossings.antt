@@ -16,14 +16,14 @@ use Rattle.levels.proofs.Totals.{none-at, total-cons}
 use Rattle.ranges.specs.declared.Range.{Range}
 use Rattle.pricing.specs.declared.figures.Mode.TheVariants as mode
 use Rattle.pricing.specs.declared.search.Choice.{Choice}
-use Rattle.pricing.specs.Prices.{opening}
 use Rattle.pricing.specs.Scan.{greatest}
-use Rattle.pricing.specs.Best.{Chosen, CrossesMost, crossing}
+use Rattle.pricing.specs.Best.{CrossesMost, crossing}
 use Rattle.pricing.proofs.Scans.{greatest-bound, greatest-attained}
 use Rattle.pricing.proofs.Walks.{Within}
 use Rattle.clearing.specs.declared.opening.Kind.TheVariants.{Quick}
 use Rattle.clearing.specs.declared.opening.Opening.{Opening}
-use Rattle.stages.specs.Looks.{Scene, opening_at, cleanly, crossable_to, crossable, MostCrossing, quick_at}
+use Rattle.pricing.specs.Scenes.{Scene, ChosenIn}
+use Rattle.stages.specs.Looks.{opening_at, cleanly, crossable_to, crossable, MostCrossing, quick_at}
 
 -- permitted prices up to the top, and none beyond
 pub most-crossing : (top : ℕ) (permitted : ℕ → Bool) (rows : List Row) → ((p : ℕ) → permitted p ≡ true → (1 ≤ p) × (p ≤ top)) → MostCrossing permitted rows (crossable_to top permitted rows)
@@ -53,7 +53,7 @@ most-is permitted rows n p most on up =
     let high : n ≤ crossing rows p = elim (cases_lt 0 n) [ inl some ↦ (let at = most.attained some in omega (arith, at.2, up at.0)) | inr none ↦ omega arith ] in
     omega arith
 
-pub quick-clean : (x : Scene) (range : Range) (o : Option Choice) → Within x.permitted → Chosen x.permitted (opening x.rows x.shown mode.Exchange) range.low range.high o → CrossesMost x.rows o → cleanly Quick range o ≡ quick_at x range o
+pub quick-clean : (x : Scene) (range : Range) (o : Option Choice) → Within x.permitted → ChosenIn x mode.Exchange range o → CrossesMost x.rows o → cleanly Quick range o ≡ quick_at x range o
 quick-clean x range None within best crosses = refl
 quick-clean x range (Some c) within best crosses = by (eqb c.through 0) refl
   where
@@ -69,6 +69,7 @@ quick-clean x range (Some c) within best crosses = by (eqb c.through 0) refl
 
 -- the best rank of a side: rows stand at just the prices that it takes
 pub record Edge (side : Side) (rows : List Row) (k : ℕ) : Type 0 where
+  pub top : k < 100001
   pub some : (p : ℕ) → priced p ≡ true → k < ranks_at side p → 0 < interest_at side p rows
   pub none : (p : ℕ) → priced p ≡ true → ranks_at side p ≤ k → interest_at side p rows ≡ 0
 
@@ -86,10 +87,15 @@ none_below side k p (r ∷ rows) sound hp le h =
     (λ e. refl) in
     omega (arith, head, rest, total-cons (λ (x : Row). x.left) (λ x. of_side side x && takes_price side p x.limit) r rows)
 
-pub edge_of : (side : Side) (rows : List Row) (k : ℕ) → every sound_row rows ≡ true → NextRank (of_side side) 0 100001 rows k → Edge side rows k
+ranks-top : (side : Side) (p : ℕ) → priced p ≡ true → ranks_at side p ≤ 100001
+ranks-top Buy p hp = let b = and_parts (leb 1 p) (leb p 100000) hp in grind (arith, nat_tests)
+ranks-top Sell p hp = let b = and_parts (leb 1 p) (leb p 100000) hp in grind (arith, nat_tests)
+
+pub edge_of : (side : Side) (rows : List Row) (k : ℕ) → every sound_row rows ≡ true → NextRank (of_side side) 0 100001 rows (Some k) → Edge side rows k
 edge_of side rows k sound next = record {
+  top = next.within;
   some = λ p hp lt.
-      let at = next.stands (omega (arith, ranks-top side p hp)) in
+      let at = next.stands in
       let d : Row = get_d_any rows at.0 at.1 in
       let row = get_or rows at.0 d in
       let s = and_parts (of_side side row) (eqb (rank_of row) k && ltb 0 row.left) (at.2 d) in
@@ -102,10 +108,6 @@ edge_of side rows k sound next = record {
   none = λ p hp le. none_below side k p rows sound hp le (λ i d lt e. absurd (omega (arith, next.between i d lt e)));
 }
   where
-    ranks-top : (side : Side) (p : ℕ) → priced p ≡ true → ranks_at side p ≤ 100001
-    ranks-top Buy p hp = let b = and_parts (leb 1 p) (leb p 100000) hp in grind (arith, nat_tests)
-    ranks-top Sell p hp = let b = and_parts (leb 1 p) (leb p 100000) hp in grind (arith, nat_tests)
-
     get_d_any : (rows : List Row) (i : ℕ) → i < length rows → Row
     get_d_any [] i lt = absurd (omega arith)
     get_d_any (r ∷ rows) i lt = r
@@ -130,13 +132,19 @@ module _ (permitted : ℕ → Bool) (rows : List Row) (within : Within permitted
   one-crosses p on some = ne_eqb _ 0 (λ z. omega (arith, (most-crossing 100000 permitted rows within).covers p on, z))
 
   -- a side without a row
-  pub side-absent : (side : Side) → Edge side rows 100001 → eqb (crossable permitted rows) 0 ≡ true
-  side-absent Buy e = none-crosses (λ p on. let b = within p on in omega (arith, e.none p (on-priced p on) (omega (arith, b.0, b.1))))
-  side-absent Sell e = none-crosses (λ p on. let b = within p on in omega (arith, e.none p (on-priced p on) (omega (arith, b.0, b.1))))
+  pub side-absent : (side : Side) → every sound_row rows ≡ true → NextRank (of_side side) 0 100001 rows None → eqb (crossable permitted rows) 0 ≡ true
+  side-absent side sound next = none-crosses (λ p on.
+      let hp = on-priced p on in
+      let none = none_below side 100001 p rows sound hp (ranks-top side p hp) (λ i d lt e. absurd (omega (arith, next i d lt e))) in
+      crossing-none side p none)
+    where
+      crossing-none : (side : Side) (p : ℕ) → interest_at side p rows ≡ 0 → crossing rows p ≡ 0
+      crossing-none Buy p none = omega arith
+      crossing-none Sell p none = omega arith
 
   -- the least permitted price from the best sell on, and the best buy
-  pub least-crosses : (kb ks q : ℕ) → Edge Buy rows kb → Edge Sell rows ks → kb < 100001 → ks < 100001 → Least permitted (max ks 1) (Some q) → ltb (min 100000 (100001 - kb)) q ≡ eqb (crossable permitted rows) 0
-  least-crosses kb ks q buy sell lb ls least = elim (cases_lt (min 100000 (100001 - kb)) q) [
+  pub least-crosses : (kb ks q : ℕ) → Edge Buy rows kb → Edge Sell rows ks → Least permitted (max ks 1) (Some q) → ltb (min 100000 (100001 - kb)) q ≡ eqb (crossable permitted rows) 0
+  least-crosses kb ks q buy sell least = elim (cases_lt (min 100000 (100001 - kb)) q) [
     | inl far ↦ lt-ltb _ q far ∙ sym (none-crosses (λ p on.
         let b = within p on in
         elim (cases_lt 100001 (kb + p)) [

@@ -11,7 +11,8 @@ use Rattle.stages.specs.declared.stage.Stage.TheVariants as stage
 use Rattle.stages.specs.declared.stage.Decision.{Decision}
 use Rattle.stages.specs.declared.stage.Decision.TheVariants.{Wait, Hold, Tell, Open}
 use Rattle.stages.specs.Messages.{message_of}
-use Rattle.stages.specs.Looks.{Scene, range_of, routing_choice, quoted_choice, cleanly, exchange_opening, forced_opening, at_once}
+use Rattle.pricing.specs.Scenes.{Scene}
+use Rattle.stages.specs.Looks.{range_of, routing_choice, quoted_choice, cleanly, exchange_opening, forced_opening, at_once}
 
 -- an opening that is due, or else
 abbrev pub opens_or : Option Opening → Decision → Decision

@@ -1,5 +1,5 @@
 -- What the rules find when they look at the rows and the away market.
-use Rattle.std.specs.Prelude.{◌≡◌, ℕ, ◌<◌, ◌≤◌, Bool, true, false, cond, not, ◌&&◌, ◌||◌, List, is_some, Some, None, Option, ◌==◌, nat_lt}
+use Rattle.std.specs.Prelude.{◌≡◌, ℕ, ◌<◌, ◌≤◌, Bool, true, false, cond, not, ◌&&◌, ◌||◌, List, is_some, Some, None, Option, unwrap_or, ◌==◌, nat_lt}
 use Rattle.interest.specs.declared.Side.{Side}
 use Rattle.interest.specs.declared.Side.TheVariants.{Buy, Sell}
 use Rattle.interest.specs.Sides.{opposite}
@@ -12,30 +12,18 @@ use Rattle.ranges.specs.declared.Away.{Away}
 use Rattle.ranges.specs.declared.Range.{Range}
 use Rattle.ranges.specs.Bands.{quality_market}
 use Rattle.ranges.specs.Ranges.{from_to, quick_range, opening_range}
-use Rattle.pricing.specs.declared.figures.Mode.{Mode}
 use Rattle.pricing.specs.declared.figures.Mode.TheVariants as mode
 use Rattle.pricing.specs.declared.search.Choice.{Choice}
-use Rattle.pricing.specs.Prices.{opening}
 use Rattle.pricing.specs.Scan.{greatest}
-use Rattle.pricing.specs.Choosing.{choice_in}
+use Rattle.pricing.specs.Scenes.{Scene, chosen_in}
 use Rattle.pricing.specs.Best.{crossing}
 use Rattle.clearing.specs.declared.opening.Kind.{Kind}
 use Rattle.clearing.specs.declared.opening.Kind.TheVariants.{Plain, Quick, Exchange, Forced}
 use Rattle.clearing.specs.declared.opening.Opening.{Opening}
 
--- the permitted prices, the prior close, the rows, and the contracts that the away market shows on a side at a price or better
-pub record Scene : Type 0 where
-  pub permitted : ℕ → Bool
-  pub close : ℕ
-  pub rows : List Row
-  pub shown : Side → ℕ → ℕ
-
-abbrev pub scene : (ℕ → Bool) → ℕ → List Row → (Side → ℕ → ℕ) → Scene
-scene permitted close rows shown = record { permitted = permitted; close = close; rows = rows; shown = shown }
-
--- qb and qo: the highest bid and the lowest offer of the quotes
+-- qb and qo: the highest bid and the lowest offer of the quotes, 0 where there is none
 abbrev pub quotes_of : List Row → Quotes
-quotes_of rows = record { bid = best_quote Buy rows; offer = best_quote Sell rows }
+quotes_of rows = record { bid = unwrap_or (best_quote Buy rows) 0; offer = unwrap_or (best_quote Sell rows) 0 }
 
 abbrev pub away_of : (Side → ℕ → ℕ) → Away
 away_of shown = record { bid = best_of Buy (shown Buy); offer = best_of Sell (shown Sell) }
@@ -43,21 +31,17 @@ away_of shown = record { bid = best_of Buy (shown Buy); offer = best_of Sell (sh
 abbrev pub range_of : List Row → (Side → ℕ → ℕ) → Range
 range_of rows shown = opening_range (quotes_of rows) (away_of shown)
 
--- the choice in a range
-abbrev pub chosen_in : Scene → Mode → Range → Option Choice
-chosen_in x m range = choice_in x.permitted (opening x.rows x.shown m) range.low range.high x.close
-
 -- the routing choice in the opening range
 abbrev pub routing_choice : Scene → Option Choice
 routing_choice x = chosen_in x mode.Routing (range_of x.rows x.shown)
 
 -- the exchange-only choice from qb to qo
 abbrev pub quoted_choice : Scene → Option Choice
-quoted_choice x = chosen_in x mode.Exchange (from_to (best_quote Buy x.rows) (best_quote Sell x.rows))
+quoted_choice x = chosen_in x mode.Exchange (from_to (quotes_of x.rows).bid (quotes_of x.rows).offer)
 
 -- an opening at a choice
 abbrev pub opening_at : Kind → Range → Choice → Opening
-opening_at kind range c = record { kind = kind; price = Some c.price; volume = c.volume; low = range.low; high = range.high }
+opening_at kind range c = record { kind = kind; price = Some c.price; volume = c.volume; range = range }
 
 -- a choice opens if nothing unmatched is through it
 abbrev pub cleanly : Kind → Range → Option Choice → Option Opening
@@ -70,7 +54,7 @@ exchange_opening x = cleanly Exchange (range_of x.rows x.shown) (chosen_in x mod
 
 -- kind 5: with or without a price
 abbrev pub forced_opening : Range → Option Choice → Opening
-forced_opening range None = record { kind = Forced; price = None; volume = 0; low = range.low; high = range.high }
+forced_opening range None = record { kind = Forced; price = None; volume = 0; range = range }
 forced_opening range (Some c) = opening_at Forced range c
 
 -- the greatest smaller-of-buys-and-sells of the permitted prices up to one
@@ -103,7 +87,7 @@ abbrev pub plainly : Scene → Bool
 plainly x = crossable x.permitted x.rows == 0 && (not (could_route x Buy || could_route x Sell) && not (unquoted (quotes_of x.rows) (away_of x.shown)))
 
 abbrev pub plain_opening : Opening
-plain_opening = record { kind = Plain; price = None; volume = 0; low = 0; high = 0 }
+plain_opening = record { kind = Plain; price = None; volume = 0; range = from_to 0 0 }
 
 -- kind 2: the exchange-only choice in the quick range trades as much as any permitted price could, and nothing unmatched is through it
 abbrev pub quick_at : Scene → Range → Option Choice → Option Opening

@@ -1,5 +1,5 @@
 -- The reasons to wait.
-use Rattle.std.specs.Prelude.{ℕ, ◌-◌, Bool, false, cond, not, ◌&&◌, List, Some, None, Option, nat_le, nat_lt}
+use Rattle.std.specs.Prelude.{⊤, ℕ, ◌-◌, Bool, false, cond, not, ◌&&◌, List, Some, None, Ok, Err, Option, Result, nat_le, nat_lt}
 use Rattle.interest.specs.declared.Side.{Side}
 use Rattle.interest.specs.declared.Side.TheVariants.{Buy, Sell}
 use Rattle.market.specs.Counts.{best_of}
@@ -22,6 +22,11 @@ abbrev pub open_for : ℕ → ℕ → Option ℕ → Bool
 open_for span time None = false
 open_for span time (Some opened) = nat_le span (time - opened)
 
+-- the underlying opened later than this
+abbrev pub opens_later : ℕ → Option ℕ → Bool
+opens_later time None = false
+opens_later time (Some opened) = nat_lt time opened
+
 -- both are shown, and the bid is above the offer
 abbrev pub above : Option ℕ → Option ℕ → Bool
 above None offer = false
@@ -40,3 +45,8 @@ reason_to_wait settings rows shown time underlying =
     (cond (above (best_of Buy (shown Buy)) (best_of Sell (shown Sell))) (Some AwayCrossed)
     (cond (too_few_quotes settings.window rows time underlying) (Some TooFewQuotes)
     None)))
+
+-- what is answered: the reason, or that there is none
+abbrev pub unless_waiting : Option Reason → Result ⊤ Reason
+unless_waiting None = Ok tt
+unless_waiting (Some reason) = Err reason

@@ -12,4 +12,4 @@ pub mod waits;
 pub use messages::Message;
 pub use settings::Settings;
 pub use stage::{Decision, Stage, TickAnswer};
-pub use waits::Reason;
+pub use waits::{Moment, Reason};

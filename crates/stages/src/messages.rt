@@ -1,38 +1,42 @@
 //! Messages to the members while an auction looks for its price.
-ghost use Rattle.std.specs.Prelude.{◌≡◌};
-ghost use Rattle.stages.specs.Messages.{message_of};
+ghost use Rattle.std.specs.Prelude.{◌≡◌, Some};
+ghost use Rattle.stages.specs.Messages.{message_of, message_text};
 
+use pricing::figures::Unmatched;
 use pricing::search::Choice;
+use std::fmt;
 
-/// The number of a message, the side of the unmatched contracts (0 none, 1 buy, 2 sell), the volume, the unmatched contracts
-/// and the price; all but the number are 0 without a price.
-#[derive(Clone, Copy)]
+/// The number of a message, and the price, its volume and what it leaves unmatched; without a price there is nothing of either.
+#[derive(Clone, Copy, PartialEq, Eq, Debug)]
 pub struct Message {
     pub number: u64,
-    pub side: u8,
+    pub price: Option<u32>,
     pub volume: u32,
-    pub imbalance: u32,
-    pub price: u32,
+    pub unmatched: Unmatched,
 }
 
 /// The message of that number on a choice.
 pub fn message_on(number: u64, choice: Option<Choice>) -> Message
     ensures { result ≡ message_of number choice }
 {
-    match choice {
-        Some(choice) => Message {
-            number,
-            side: choice.unmatched.side(),
-            volume: choice.volume,
-            imbalance: choice.unmatched.contracts(),
-            price: choice.price,
-        },
-        None => Message {
-            number,
-            side: 0,
-            volume: 0,
-            imbalance: 0,
-            price: 0,
-        },
+    Message {
+        number,
+        price: choice.map(|choice| choice.price),
+        volume: choice.map_or(0, |choice| choice.volume),
+        unmatched: choice.map_or(Unmatched::Nothing, |choice| choice.unmatched),
+    }
+}
+
+impl fmt::Display for Message {
+    ghost output = { λ m. Some (message_text m) };
+
+    fn fmt<W: fmt::Write>(&self, f: &mut fmt::Formatter<W>) -> fmt::Result {
+        let number = self.number;
+        let side = self.unmatched.side().map_or(0, u8::from);
+        let volume = self.volume;
+        write!(f, "message {number} side {side} volume {volume}")?;
+        let imbalance = self.unmatched.contracts();
+        let price = self.price.unwrap_or(0);
+        write!(f, " imbalance {imbalance} price {price}")
     }
 }

@@ -7,8 +7,8 @@ use crate::waits::Reason;
 use clearing::{Opening, Report};
 
 /// Waiting for the series to be ready; gathering after message 1, routing after message 2, extra after each later one, all
-/// with a deadline and the extra messages left; or open.
-#[derive(Clone, Copy)]
+/// with a deadline and the extra messages left; or open. A struct for those two would be one more name at each use.
+#[derive(Clone, Copy, PartialEq, Eq, Debug)]
 pub enum Stage {
     Waiting,
     Gathering { deadline: u64, left: u32 },
@@ -22,13 +22,7 @@ impl Stage {
     pub fn is_open(self) -> bool
         ensures { result ≡ is_open self }
     {
-        match self {
-            Stage::Waiting => false,
-            Stage::Gathering { .. } => false,
-            Stage::Routing { .. } => false,
-            Stage::Extra { .. } => false,
-            Stage::Open => true,
-        }
+        self == Stage::Open
     }
 
     /// Whether the deadline of the stage has come; a stage without one has none that could.
@@ -36,11 +30,10 @@ impl Stage {
         ensures { result ≡ due self time }
     {
         match self {
-            Stage::Waiting => false,
-            Stage::Gathering { deadline, .. } => deadline <= time as u64,
-            Stage::Routing { deadline, .. } => deadline <= time as u64,
-            Stage::Extra { deadline, .. } => deadline <= time as u64,
-            Stage::Open => false,
+            Stage::Waiting | Stage::Open => false,
+            Stage::Gathering { deadline, .. }
+            | Stage::Routing { deadline, .. }
+            | Stage::Extra { deadline, .. } => deadline <= u64::from(time),
         }
     }
 }

@@ -1,14 +1,12 @@
 -- The proof of `gather`.
-use Rattle.std.proofs.Common.{◌≡◌, ◌+◌, ◌≤◌, List, length, take, sym, refl, ap, ◌∙◌, arith}
-use Rattle.std.proofs.lemmas.List.{take_all}
+use Rattle.std.proofs.Common.{◌≡◌, ◌+◌, ◌≤◌, List, length, sym, ap, ◌∙◌, arith}
 use Rattle.sharing.specs.Levels.{rows_of as holdings_of}
 use Rattle.book.specs.declared.row.Row.{Row}
 use Rattle.book.specs.declared.book.Book.{Book}
 use Rattle.book.specs.Rows.{sound_table}
-use Rattle.book.specs.Ranks.{of_side, at_rank}
+use Rattle.book.specs.Ranks.{of_side}
 use Rattle.book.specs.Books.{rows_of}
 use Rattle.book.proofs.RewriteFacts.{rows_few}
-use Rattle.levels.specs.Levels.{level_at}
 use Rattle.levels.proofs.Walking.{level-no}
 use Rattle.filling.proofs.Gathering.{push-takes, count_yes, count_no, count_fits}
 use Rattle.filling.proofs.gather.Goals as goal
@@ -16,9 +14,6 @@ use Rattle.filling.proofs.gather.Goals.{then-stands_at, else-stands_at}
 
 few : (b : Book) (rows : List Row) → rows ≡ rows_of b → length rows ≤ 128
 few b rows e = omega (arith, ap length e, rows_few b)
-
-pub loop-row-init : goal.loop-row-init
-loop-row-init c = (c.new-level.ensures, refl)
 
 pub overflow_add-contracts : goal.overflow_add-contracts
 overflow_add-contracts c =
@@ -47,13 +42,3 @@ loop-row-preserved c =
             omega (arith, w.contracts-is, c.loop-row.invariant.1, count_no part k rows i _ lt h),
           )
     ]
-
-pub returns : goal.returns
-returns c =
-    let part = of_side c.args.side in
-    let rows = c.rows-row-items.result.now in
-    let all : take c.loop-row.row-index rows ≡ rows_of c.args.book.now = take_all c.loop-row.row-index rows c.loop-row-test.false ∙ c.rows-row-items.ensures in
-    record {
-      level = c.loop-row.invariant.0 ∙ ap (level_at part c.args.at) all;
-      contracts = c.loop-row.invariant.1 ∙ ap (at_rank part c.args.at) all;
-    }

@@ -1,5 +1,5 @@
 -- The proof of `route_level`.
-use Rattle.std.proofs.Common.{◌≡◌, ℕ, ◌+◌, ◌-◌, ◌<◌, ◌≤◌, min, true, false, List, ◌++◌, length, get_or, take, drop, sym, refl, ap, ◌∙◌, subst, arith}
+use Rattle.std.proofs.Common.{◌≡◌, ℕ, ◌+◌, ◌-◌, ◌<◌, ◌≤◌, min, true, false, List, ◌++◌, length, get_or, take, drop, sym, ap, ◌∙◌, subst, arith}
 use Rattle.std.proofs.lemmas.List.{drop_all}
 use Rattle.interest.specs.declared.Side.{Side}
 use Rattle.interest.specs.Sides.{opposite}
@@ -9,7 +9,7 @@ use Rattle.sharing.specs.Totals.{total, contracts as sizes}
 use Rattle.book.specs.declared.row.Row.{Row}
 use Rattle.book.specs.Ranks.{can_route}
 use Rattle.book.specs.Books.{rows_of}
-use Rattle.book.proofs.RewriteFacts.{changed-length, pass-end, rows_few}
+use Rattle.book.proofs.RewriteFacts.{changed-length, rows_few}
 use Rattle.book.specs.Rewrites.{changed_at, route_row}
 use Rattle.levels.specs.Levels.{level_at}
 use Rattle.levels.proofs.Dealing.{level-total}
@@ -23,12 +23,6 @@ use Rattle.routing.proofs.route_level.Goals.{then-stands_at, else-stands_at}
 answer : (f : Side → ℕ → ℕ) (s o : Side) (p n i : ℕ) (d : Row) (seen rows : List Row) → o ≡ opposite s → seen ≡ rows → n ≡ counted (f o) p (get_or seen i d).left → n ≡ min (get_or rows i d).left (count_at (f (opposite s)) p)
 answer f s o p n i d seen rows eo e h =
     h ∙ counted_is (f o) p (get_or seen i d).left ∙ ap (λ (x : Side). min (get_or seen i d).left (count_at (f x) p)) eo ∙ ap (λ (xs : List Row). min (get_or xs i d).left (count_at (f (opposite s)) p)) e
-
-pub loop-i-init : goal.loop-i-init
-loop-i-init g c = (sym (ap length c.rows-count.ensures), refl, omega arith, (λ p. omega arith), (λ p. refl))
-
-pub bounds-rows-i : goal.bounds-rows-i
-bounds-rows-i g c = omega (arith, ap length c.rows.ensures, c.loop-i.invariant.0, c.loop-i-test.true)
 
 pub overflow_add-sent : goal.overflow_add-sent
 overflow_add-sent g c =
@@ -68,8 +62,10 @@ loop-i-preserved g c =
             ap length now ∙ changed-length i (route_row n) rows ∙ c.loop-i.invariant.0,
             ap (λ (xs : List Row). take (i + 1) xs ++ served part route_row k q' (drop (i + 1) xs)) now ∙ serve-yes part route_row k rows i _ lt q n q' h en eq ∙ c.loop-i.invariant.1,
             omega (arith, sums, ap S now, w.sent-is, c.loop-i.invariant.2),
-            (λ p. omega (arith, fell p, w.sent-is, c.loop-i.invariant.3 p)),
-            (λ p. same p ∙ c.loop-i.invariant.4 p),
+            record {
+              taken = λ p. omega (arith, fell p, w.sent-is, c.loop-i.invariant.3.taken p);
+              stays = λ p. same p ∙ c.loop-i.invariant.3.stays p;
+            },
           )
       | else-stands_at w ↦
           let h = stands_read part k i _ c.rows.result.now rows false c.rows.ensures (sym w.if-stands_at.ensures) in
@@ -79,23 +75,17 @@ loop-i-preserved g c =
             ap length now ∙ c.loop-i.invariant.0,
             ap (λ (xs : List Row). take (i + 1) xs ++ served part route_row k q' (drop (i + 1) xs)) now ∙ ap (λ (x : ℕ). take (i + 1) rows ++ served part route_row k x (drop (i + 1) rows)) eq ∙ serve-no part route_row k rows i _ lt q h ∙ c.loop-i.invariant.1,
             omega (arith, eq, ap S now, none, w.sent-is, c.loop-i.invariant.2),
-            (λ p. ap (λ m. shown m (opposite side) p) w.market-is ∙ c.loop-i.invariant.3 p ∙ ap (λ (x : ℕ). shown c.args.market.now (opposite side) p - x) (sym w.sent-is)),
-            (λ p. ap (λ m. shown m side p) w.market-is ∙ c.loop-i.invariant.4 p),
+            record {
+              taken = λ p. ap (λ m. shown m (opposite side) p) w.market-is ∙ c.loop-i.invariant.3.taken p ∙ ap (λ (x : ℕ). shown c.args.market.now (opposite side) p - x) (sym w.sent-is);
+              stays = λ p. ap (λ m. shown m side p) w.market-is ∙ c.loop-i.invariant.3.stays p;
+            },
           )
     ]
 
-pub returns : goal.returns
-returns g c =
+pub returns-clause-sent : goal.returns-clause-sent
+returns-clause-sent g c =
     let part = can_route c.args.side in
-    let k = c.args.at in
     let rows = rows_of c.loop-i.book in
-    let i = c.loop-i.i in
-    let q = count_at (g.M.ShownMarket.shown c.loop-i.market (opposite c.args.side)) c.args.price in
-    let past : length rows ≤ i = omega (arith, c.loop-i.invariant.0, c.loop-i-test.false) in
-    let over : total (sizes (level_at part k (drop i rows))) ≡ 0 = ap (λ (xs : List Row). total (sizes (level_at part k xs))) (drop_all i rows past) in
-    record {
-      rows = sym (pass-end (served part route_row k q) i rows refl past) ∙ c.loop-i.invariant.1;
-      sent = omega (arith, c.loop-i.invariant.2, over, level-total part k (rows_of c.args.book.now));
-      taken = c.loop-i.invariant.3;
-      stays = c.loop-i.invariant.4;
-    }
+    let past : length rows ≤ c.loop-i.i = omega (arith, c.loop-i.invariant.0, c.loop-i-test.false) in
+    let over : total (sizes (level_at part c.args.at (drop c.loop-i.i rows))) ≡ 0 = ap (λ (xs : List Row). total (sizes (level_at part c.args.at xs))) (drop_all c.loop-i.i rows past) in
+    omega (arith, c.loop-i.invariant.2, over, level-total part c.args.at (rows_of c.args.book.now))

@@ -1,26 +1,20 @@
 -- The proof of `cancel`.
-use Rattle.std.proofs.Common.{◌≡◌, ℕ, ◌+◌, ◌<◌, Bool, true, false, List, ◌++◌, map, length, get_or, take, drop, sym, refl, ap, ◌∙◌, arith}
+use Rattle.std.proofs.Common.{◌≡◌, ℕ, ◌+◌, ◌<◌, Bool, true, false, List, ◌++◌, map, length, get_or, take, drop, sym, ap, ◌∙◌, arith}
 use Rattle.std.proofs.lemmas.Bool.{cond-true, cond-false}
 use Rattle.book.specs.declared.row.Row.{Row}
 use Rattle.book.specs.Books.{rows_of}
 use Rattle.book.specs.Ranks.{through_price}
 use Rattle.book.specs.Rewrites.{changed_at, cancel_row}
-use Rattle.book.proofs.RewriteFacts.{changed-length, map-step, map-passed, pass-end}
+use Rattle.book.proofs.RewriteFacts.{changed-length, map-step, map-passed}
 use Rattle.settling.specs.declared.Edges.{Edges}
 use Rattle.settling.specs.Settles.{edge_of, cancel_through}
 use Rattle.settling.proofs.cancel.Goals as goal
-use Rattle.settling.proofs.cancel.Goals.{then-is_beyond, else-is_beyond}
+use Rattle.settling.proofs.cancel.Goals.{then-are_passed, else-are_passed}
 
 -- the test over the copy of the row that was read
 read : (edges : Edges) (i : ℕ) (d : Row) (seen rows : List Row) (b : Bool) → seen ≡ rows → b ≡ through_price (get_or seen i d).side (edge_of edges (get_or seen i d).side) (get_or seen i d).limit
     → through_price (get_or rows i d).side (edge_of edges (get_or rows i d).side) (get_or rows i d).limit ≡ b
 read edges i d seen rows b e h = ap (λ (xs : List Row). through_price (get_or xs i d).side (edge_of edges (get_or xs i d).side) (get_or xs i d).limit) (sym e) ∙ sym h
-
-pub loop-i-init : goal.loop-i-init
-loop-i-init c = (sym (ap length c.rows-count.ensures), refl)
-
-pub bounds-rows-i : goal.bounds-rows-i
-bounds-rows-i c = omega (arith, ap length c.rows.ensures, c.loop-i.invariant.0, c.loop-i-test.true)
 
 pub loop-i-preserved : goal.loop-i-preserved
 loop-i-preserved c =
@@ -29,20 +23,17 @@ loop-i-preserved c =
     let rows = rows_of c.loop-i.book in
     let f = cancel_through edges in
     let lt : i < length rows = omega (arith, c.loop-i.invariant.0, c.loop-i-test.true) in
-    elim c.if-is_beyond.branch [
-      | then-is_beyond w ↦
-          let h = read edges i _ c.rows.result.now rows true c.rows.ensures w.if-is_beyond.ensures in
-          let now : rows_of c.if-is_beyond.book ≡ changed_at i cancel_row rows = ap rows_of w.book-is ∙ w.cancel.ensures in (
+    elim c.if-are_passed.branch [
+      | then-are_passed w ↦
+          let h = read edges i _ c.rows.result.now rows true c.rows.ensures w.if-are_passed.ensures in
+          let now : rows_of c.if-are_passed.book ≡ changed_at i cancel_row rows = ap rows_of w.book-is ∙ w.cancel.ensures in (
             ap length now ∙ changed-length i cancel_row rows ∙ c.loop-i.invariant.0,
             ap (λ (xs : List Row). take (i + 1) xs ++ map f (drop (i + 1) xs)) now ∙ map-step f cancel_row i rows _ lt (sym (cond-true _ _ _ h)) ∙ c.loop-i.invariant.1,
           )
-      | else-is_beyond w ↦
-          let h = read edges i _ c.rows.result.now rows false c.rows.ensures w.if-is_beyond.ensures in
-          let now : rows_of c.if-is_beyond.book ≡ rows = ap rows_of w.book-is in (
+      | else-are_passed w ↦
+          let h = read edges i _ c.rows.result.now rows false c.rows.ensures w.if-are_passed.ensures in
+          let now : rows_of c.if-are_passed.book ≡ rows = ap rows_of w.book-is in (
             ap length now ∙ c.loop-i.invariant.0,
             ap (λ (xs : List Row). take (i + 1) xs ++ map f (drop (i + 1) xs)) now ∙ map-passed f i rows _ lt (sym (cond-false _ _ _ h)) ∙ c.loop-i.invariant.1,
           )
     ]
-
-pub returns : goal.returns
-returns c = sym (pass-end (map (cancel_through c.args.edges)) c.loop-i.i (rows_of c.loop-i.book) refl (omega (arith, c.loop-i.invariant.0, c.loop-i-test.false))) ∙ c.loop-i.invariant.1

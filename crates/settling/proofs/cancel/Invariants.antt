@@ -6,5 +6,5 @@ use Rattle.settling.proofs.cancel.Given as goal
 
 abbrev pub invariant-loop-i : goal.invariant-loop-i
 invariant-loop-i l =
-    (length (rows_of l.book) ≡ l.count)
+    (length (rows_of l.book) ≡ l.i-end)
     × (take l.i (rows_of l.book) ++ map (cancel_through l.edges) (drop l.i (rows_of l.book)) ≡ map (cancel_through l.edges) (rows_of l.initial.book))

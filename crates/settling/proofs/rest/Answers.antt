@@ -1,11 +1,11 @@
 -- The proof of `rest`.
-use Rattle.std.proofs.Common.{◌≡◌, ℕ, ◌+◌, ◌<◌, Bool, List, ◌++◌, map, length, get_or, take, drop, Option, sym, refl, ap, ◌∙◌, arith}
+use Rattle.std.proofs.Common.{◌≡◌, ℕ, ◌+◌, ◌<◌, Bool, List, ◌++◌, map, length, get_or, take, drop, Option, ap, ◌∙◌, arith}
 use Rattle.interest.specs.declared.Side.{Side}
 use Rattle.market.specs.Counts.{best_of}
 use Rattle.book.specs.declared.row.Row.{Row}
 use Rattle.book.specs.Books.{rows_of}
 use Rattle.book.specs.Rewrites.{rest_row}
-use Rattle.book.proofs.RewriteFacts.{changed-length, map-step, pass-end}
+use Rattle.book.proofs.RewriteFacts.{changed-length, map-step}
 use Rattle.settling.specs.declared.Resting.{Resting}
 use Rattle.settling.specs.Settles.{place_of, rested_row}
 use Rattle.settling.proofs.rest.Goals as goal
@@ -15,12 +15,6 @@ placed : (permitted : ℕ → Bool) (away : Side → Option ℕ) (i : ℕ) (d : 
 placed permitted away i d seen rows at e h =
     let is : at ≡ place_of permitted away (get_or rows i d) = h ∙ ap (λ (xs : List Row). place_of permitted away (get_or xs i d)) e in
     ap (λ (x : Resting). rest_row x.working x.shown (get_or rows i d)) is
-
-pub loop-i-init : goal.loop-i-init
-loop-i-init g c = (sym (ap length c.rows-count.ensures), refl)
-
-pub bounds-rows-i : goal.bounds-rows-i
-bounds-rows-i g c = omega (arith, ap length c.rows.ensures, c.loop-i.invariant.0, c.loop-i-test.true)
 
 pub loop-i-preserved : goal.loop-i-preserved
 loop-i-preserved g c =
@@ -35,8 +29,3 @@ loop-i-preserved g c =
       ap length now ∙ changed-length i (rest_row at.working at.shown) rows ∙ c.loop-i.invariant.0,
       ap (λ (xs : List Row). take (i + 1) xs ++ map (rested_row permitted away) (drop (i + 1) xs)) now ∙ map-step (rested_row permitted away) (rest_row at.working at.shown) i rows _ lt same ∙ c.loop-i.invariant.1,
     )
-
-pub returns : goal.returns
-returns g c =
-    let f = rested_row (g.L.Ladder.permitted c.args.ladder.now) (λ side. best_of side (g.M.ShownMarket.shown c.args.market.now side)) in
-    sym (pass-end (map f) c.loop-i.i (rows_of c.loop-i.book) refl (omega (arith, c.loop-i.invariant.0, c.loop-i-test.false))) ∙ c.loop-i.invariant.1

@@ -1,7 +1,7 @@
 -- The proof of `carry_out`.
-use Rattle.std.proofs.Common.{ℕ, Option, sym, ap, ◌∙◌, subst}
+use Rattle.std.proofs.Common.{◌≡◌, rules, ℕ, Option, sym, ap, ◌∙◌, subst}
 use Rattle.book.specs.Books.{rows_of}
-use Rattle.clearing.specs.Openings.{executed, edges_of, counts_left}
+use Rattle.clearing.specs.Openings.{priced_only, told_price, executed, edges_of, counts_left}
 use Rattle.interest.specs.declared.Side.TheVariants.{Buy, Sell}
 use Rattle.clearing.specs.declared.opening.Report.{Report}
 use Rattle.clearing.specs.Reports.{report_of, ShowsBest}
@@ -28,12 +28,13 @@ returns g c =
     let done = rows_of c.execute.new.book in
     let after = rows_of c.rest.new.book in
     let left = g.M.ShownMarket.shown c.execute.new.market in
-    let told = c.priced_only-price.ensures.is in
+    let told : told_price c.priced_only-in_bounds.result ≡ priced_only o.price = c.priced_only-in_bounds.ensures in
+    let price : c.map-price.result ≡ priced_only o.price = search rules ∙ told in
     let done-is = c.execute.ensures.rows ∙ ap (λ (x : Option ℕ). executed shares counts o.kind x o.volume rows) told in
-    let edges_are = c.edges_of.ensures ∙ ap (λ (x : Option ℕ). edges_of o.kind x o.low o.high) told in
+    let edges_are = c.edges_of.ensures ∙ ap (λ (x : Option ℕ). edges_of o.kind x o.range) price in
     let left_is = c.execute.ensures.counts in
     let after_is = settled_is permitted (counts_left counts rows done) left edges done (rows_of c.cancel.new.book) after left_is c.cancel.ensures c.rest.ensures in
-    let report-is = c.report.ensures ∙ ap (λ (x : Option ℕ). report_of o x after) told in
+    let report-is = c.report.ensures ∙ ap (λ (x : Option ℕ). report_of o x after) price in
     record {
       rows = after-is-rows permitted shares counts o rows done after edges done-is edges_are after_is;
       counts = left-all permitted shares long within whole counts worsens edge o rows sound edges done after left done-is after_is left_is;

@@ -16,18 +16,23 @@ returns g c =
     let start = rows_of c.args.book.now in
     let mid = rows_of c.route_at-buys.new.book in
     let end = rows_of c.route_at-sells.new.book in
-    let n = c.ranks_at.result in
-    let m = c.ranks_at-2.result in
-    let bids : shown c.route_at-buys.new.market Buy ≡ f Buy = fun_ext c.route_at-buys.ensures.stays in
-    let qb = count_at (f Sell) c.args.buys_at in
-    let qs = count_at (f Buy) c.args.sells_at in
-    let one : mid ≡ routed_rows (λ _. qb) Buy n start = c.route_at-buys.ensures.rows in
-    let two : end ≡ routed_rows (λ _. qs) Sell m mid = c.route_at-sells.ensures.rows ∙ ap (λ (k : ℕ → ℕ). routed_rows (λ _. count_at k c.args.sells_at) Sell m mid) bids in
+    let n = c.ranks.result in
+    let m = c.ranks-2.result in
+    let b = c.ask-buys_at.result in
+    let s = c.ask-sells_at.result in
+    let bids : shown c.route_at-buys.new.market Buy ≡ f Buy = fun_ext c.route_at-buys.ensures.market.stays in
+    let one : mid ≡ routed_rows (λ _. count_at (f Sell) b) Buy n start = c.route_at-buys.ensures.rows in
+    let two : end ≡ routed_rows (λ _. count_at (f Buy) s) Sell m mid = c.route_at-sells.ensures.rows ∙ ap (λ (k : ℕ → ℕ). routed_rows (λ _. count_at k s) Sell m mid) bids in
     record {
-      rows = two ∙ ap (λ (x : ℕ). routed_rows (λ _. qs) Sell x mid) c.ranks_at-2.ensures
-          ∙ ap (routed_rows (λ _. qs) Sell (ranks_at Sell c.args.price)) (one ∙ ap (λ (x : ℕ). routed_rows (λ _. qb) Buy x start) c.ranks_at.ensures);
+      rows = λ asked gives.
+          let buys = gives Buy b c.ask-buys_at.ensures in
+          let sells = gives Sell s c.ask-sells_at.ensures in
+          two ∙ ap (λ (x : ℕ). routed_rows (λ _. count_at (f Buy) s) Sell x mid) c.ranks-2.ensures
+          ∙ ap (λ (x : ℕ). routed_rows (λ _. count_at (f Buy) x) Sell (ranks_at Sell c.args.price.cents) mid) sells
+          ∙ ap (routed_rows (λ _. count_at (f Buy) (asked Sell)) Sell (ranks_at Sell c.args.price.cents))
+          (one ∙ ap (λ (x : ℕ). routed_rows (λ _. count_at (f Sell) b) Buy x start) c.ranks.ensures ∙ ap (λ (x : ℕ). routed_rows (λ _. count_at (f Sell) x) Buy (ranks_at Buy c.args.price.cents) start) buys);
       counts = counts-both f (shown c.route_at-buys.new.market) (shown c.route_at-sells.new.market) c.route_at-buys.result c.route_at-sells.result start mid end
           c.route_at-buys.ensures.total c.route_at-sells.ensures.total
-          (ap (routed_on Buy) two ∙ routed-sum-other (λ _. qs) Sell m mid) (ap (routed_on Sell) one ∙ routed-sum-other (λ _. qb) Buy n start)
-          c.route_at-buys.ensures.taken c.route_at-buys.ensures.stays c.route_at-sells.ensures.taken c.route_at-sells.ensures.stays;
+          (ap (routed_on Buy) two ∙ routed-sum-other (λ _. count_at (f Buy) s) Sell m mid) (ap (routed_on Sell) one ∙ routed-sum-other (λ _. count_at (f Sell) b) Buy n start)
+          c.route_at-buys.ensures.market.taken c.route_at-buys.ensures.market.stays c.route_at-sells.ensures.market.taken c.route_at-sells.ensures.market.stays;
     }

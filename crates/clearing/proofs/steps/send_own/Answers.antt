@@ -15,7 +15,7 @@ returns g c =
     let start = rows_of c.args.book.now in
     let mid = rows_of c.route_own-buys.new.book in
     let end = rows_of c.route_own-sells.new.book in
-    let bids : shown c.route_own-buys.new.market Buy ≡ f Buy = fun_ext c.route_own-buys.ensures.stays in
+    let bids : shown c.route_own-buys.new.market Buy ≡ f Buy = fun_ext c.route_own-buys.ensures.market.stays in
     let fb : ℕ → ℕ = λ k. count_at (f Sell) (own_limit Buy k) in
     let fs : ℕ → ℕ = λ k. count_at (f Buy) (own_limit Sell k) in
     let one : mid ≡ routed_rows fb Buy 100001 start = c.route_own-buys.ensures.rows in
@@ -25,5 +25,5 @@ returns g c =
       counts = counts-both f (shown c.route_own-buys.new.market) (shown c.route_own-sells.new.market) c.route_own-buys.result c.route_own-sells.result start mid end
           c.route_own-buys.ensures.total c.route_own-sells.ensures.total
           (ap (routed_on Buy) two ∙ routed-sum-other fs Sell 100001 mid) (ap (routed_on Sell) one ∙ routed-sum-other fb Buy 100001 start)
-          c.route_own-buys.ensures.taken c.route_own-buys.ensures.stays c.route_own-sells.ensures.taken c.route_own-sells.ensures.stays;
+          c.route_own-buys.ensures.market.taken c.route_own-buys.ensures.market.stays c.route_own-sells.ensures.market.taken c.route_own-sells.ensures.market.stays;
     }

@@ -1,22 +1,11 @@
 -- Below 300 the price itself, from there the multiple of 5 before it.
-use Rattle.std.proofs.Common.{sym, arith}
+use Rattle.std.proofs.Common.{rules}
 use Rattle.ladder.specs.Rungs.{stepped}
-use Rattle.ladder.proofs.Found.{greatest-out, greatest-at}
-use Rattle.ladder.proofs.Steps.{here-greatest, low_step, step-greatest}
+use Rattle.ladder.proofs.Found.{greatest-at}
+use Rattle.ladder.proofs.Steps.{stepped-greatest}
 use Rattle.ladder.proofs.SteppedLadder.at_or_below.Goals as goal
 
-pub returns-then-not-is_price : goal.returns-then-not-is_price
-returns-then-not-is_price c =
+pub returns : goal.returns
+returns c =
     let p = c.args.price in
-    let a = greatest-out stepped p (sym c.if-not-is_price.ensures) in record { answer = a; greatest = greatest-at stepped p _ a }
-
-pub returns-then-price-lt300 : goal.returns-then-price-lt300
-returns-then-price-lt300 c =
-    let p = c.args.price in
-    let e = sym c.if-not-is_price.ensures in
-    let a = here-greatest stepped p e (low_step p e (omega arith)) in record { answer = a; greatest = greatest-at stepped p _ a }
-
-pub returns-else-price-lt300 : goal.returns-else-price-lt300
-returns-else-price-lt300 c =
-    let p = c.args.price in
-    let a = step-greatest p (sym c.if-not-is_price.ensures) (omega arith) in record { answer = a; greatest = greatest-at stepped p _ a }
+    let a = stepped-greatest p c.map.result (search rules) in record { answer = a; greatest = greatest-at stepped p _ a }

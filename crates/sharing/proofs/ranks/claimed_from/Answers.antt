@@ -1,27 +1,17 @@
--- A size that is large enough adds its part, another adds nothing.
-use Rattle.std.proofs.Common.{length, ap, ◌∙◌, arith}
-use Rattle.std.proofs.lemmas.List.{drop_all, length-map}
-use Rattle.sharing.specs.Totals.{total}
-use Rattle.sharing.specs.ProRata.{part, claimed}
-use Rattle.sharing.specs.Claims.{claim-more, claimed-le}
+-- The parts that are summed are no more than all of them, which fit.
+use Rattle.std.proofs.Common.{filter, nat_le, arith, rules, tests}
+use Rattle.std.proofs.lemmas.Iterator.{YieldsList-from_slice, YieldsList-from_map}
+use Rattle.std.proofs.lemmas.Iterator.Consumers.{YieldsList-at, YieldsList-from_filter, fits_by_from_yields_list}
+use Rattle.sharing.specs.declared.ranks.Claim.{Claim}
+use Rattle.sharing.proofs.ClaimFacts.{claimed_in-le}
 use Rattle.sharing.proofs.ranks.claimed_from.Goals as goal
 
-pub bounds-parts-i : goal.bounds-parts-i
-bounds-parts-i c = omega (arith, ap length c.requires.parts ∙ length-map c.args.sizes.now (part c.args.quantity c.args.whole))
-
-pub overflow_add-sum : goal.overflow_add-sum
-overflow_add-sum c =
-    let p = part c.args.quantity c.args.whole in
-    let sizes = c.args.sizes.now in
-    omega (arith, claim-more p c.args.from sizes c.args.parts.now c.loop-i.i c.claim-sum.result c.requires.parts (omega arith) c.claim-sum.ensures, c.loop-i.invariant, claimed-le p c.args.from sizes, ap total c.requires.parts, c.requires.small)
-
-pub loop-i-preserved : goal.loop-i-preserved
-loop-i-preserved c =
-    let p = part c.args.quantity c.args.whole in
-    let sizes = c.args.sizes.now in
-    omega (arith, claim-more p c.args.from sizes c.args.parts.now c.loop-i.i c.claim-sum.result c.requires.parts (omega arith) c.claim-sum.ensures, c.loop-i.invariant)
-
-pub returns : goal.returns
-returns c =
-    let p = part c.args.quantity c.args.whole in
-    omega (arith, ap (claimed p c.args.from) (drop_all c.loop-i.i c.args.sizes.now (omega arith)), c.loop-i.invariant)
+pub sum-requires-clause-fits : goal.sum-requires-clause-fits
+sum-requires-clause-fits c =
+    let claims = c.args.claims.now in
+    let from = c.args.from in
+    fits_by_from_yields_list (λ (x : Claim). x.part) (filter (λ (x : Claim). nat_le from x.size) claims) c.map.result _
+    (YieldsList-from_map _ (λ (x : Claim). x.part)
+    (YieldsList-at c.map.ensures.source (YieldsList-from_filter _ (λ (x : Claim). nat_le from x.size) (YieldsList-from_slice claims cc) c.filter.ensures.closure (λ x r q k. search (rules, tests))))
+    c.map.ensures.closure (λ x r q k. search (rules, tests)))
+    (omega (arith, claimed_in-le from claims, c.requires))

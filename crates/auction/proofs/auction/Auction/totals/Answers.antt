@@ -10,7 +10,7 @@ returns g c =
     let a = c.args.self.now in
     let terms = terms_of g.L.Ladder.permitted g.R.SharingRule.shares a in
     let within = g.met.L.Ladder.within a.ladder in
-    let is = c.contracts.ensures in
+    let is = c.totals.ensures.equation in
     record {
       equation = is;
       law = λ h run. law {terms = terms} {h = h} {s = view a} within run;

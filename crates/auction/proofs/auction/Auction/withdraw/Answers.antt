@@ -1,8 +1,10 @@
 -- The proof of `withdraw`.
 use Rattle.book.specs.Books.{rows_of}
+use Rattle.book.specs.Edits.{without_order}
+use Rattle.runs.specs.Steps.{Withdrew}
 use Rattle.runs.specs.Laws.Step.{withdrew}
 use Rattle.auction.specs.Auctions.{view}
-use Rattle.auction.proofs.Calls.{withdraws}
+use Rattle.auction.proofs.Calls.{edited}
 use Rattle.auction.proofs.Moves.{extends}
 use Rattle.auction.proofs.auction.Auction.withdraw.Goals as goal
 
@@ -10,11 +12,8 @@ pub returns : goal.returns
 returns g c =
     let a = c.args.self.now in
     let b = c.take_order.new.self in
+    let r = c.take_order.result in
     let did = c.take_order.ensures in
-    let stays = did.stays in
-    let step = withdraws (view a) c.args.number c.take_order.result (rows_of b.book) b.stage b.last a.book.sound did.answer did.rows stays.stage stays.last did.effects in
-    record {
-      step = step;
-      kept = record { ladder = stays.ladder; rule = stays.rule; settings = stays.settings };
-      run = extends g.L.Ladder.permitted g.R.SharingRule.shares a b _ stays.ladder stays.rule stays.settings (withdrew step);
-    }
+    let state = edited r (view a) (without_order c.args.number (rows_of a.book)) (rows_of b.book) b.stage b.last did.rows did.stays.stage did.stays.last in
+    let step : Withdrew (view a) c.args.number r (view b) = record { sound = a.book.sound; answer = did.answer; state = state; effects = did.effects } in
+    record { step = step; kept = did.stays.kept; run = extends g.L.Ladder.permitted g.R.SharingRule.shares a b _ did.stays.kept (withdrew step) }

@@ -1,23 +1,17 @@
-use Rattle.std.proofs.Common.{ℕ, take, sym, arith}
-use Rattle.std.proofs.lemmas.Bool.{cond-true, cond-false}
+use Rattle.std.proofs.Common.{ℕ, refl, ◌∙◌, rules, tests}
+use Rattle.std.specs.List.{range_with_len}
+use Rattle.std.proofs.lemmas.Iterator.{YieldsList-from_range}
+use Rattle.std.proofs.lemmas.Iterator.Consumers.{YieldsList-from_filter, count_from_yields_List}
+use Rattle.std.proofs.lemmas.List.Sums.{length-filter}
 use Rattle.book.specs.Rows.{is_quote_of}
+use Rattle.book.specs.Books.{rows_of}
 use Rattle.book.specs.Reads.{stands}
-use Rattle.book.proofs.ReadFacts.{quoting-more, quoting-done}
+use Rattle.book.proofs.ReadFacts.{quoting-counted}
 use Rattle.book.proofs.book.Book.other_makers.Goals as goal
-use Rattle.book.proofs.book.Book.other_makers.Goals.{then-has_quote, else-has_quote}
-
-pub loop-maker-preserved : goal.loop-maker-preserved
-loop-maker-preserved c =
-    let b = c.args.self.now in
-    let rows = take b.count b.rows in
-    let m = c.loop-maker.maker in
-    let more = quoting-more rows m c.loop-maker-test.true in
-    elim c.if-has_quote.branch [
-      | then-has_quote w ↦ (omega (arith, w.n-is, c.loop-maker.invariant.0), omega (arith, w.n-is, more, c.loop-maker.invariant.1, cond-true {A = ℕ} (stands (is_quote_of m) rows) 1 0 (sym w.if-has_quote.ensures)))
-      | else-has_quote w ↦ (omega (arith, w.n-is, c.loop-maker.invariant.0), omega (arith, w.n-is, more, c.loop-maker.invariant.1, cond-false {A = ℕ} (stands (is_quote_of m) rows) 1 0 (sym w.if-has_quote.ensures)))
-    ]
 
 pub returns : goal.returns
 returns c =
-    let b = c.args.self.now in
-    omega (arith, c.loop-maker.invariant.1, quoting-done (take b.count b.rows) c.loop-maker.maker c.loop-maker-test.false)
+    let rows = rows_of c.args.self.now in
+    let quotes = λ (m : ℕ). stands (is_quote_of m) rows in
+    count_from_yields_List c.filter.result _ c.count.ensures.ran (YieldsList-from_filter _ quotes (YieldsList-from_range 2 17 15 c.filter.ensures.source refl) c.filter.ensures.closure (λ x b q k. search (rules, tests)))
+    ∙ length-filter quotes (range_with_len 2 15) ∙ quoting-counted rows 2 15

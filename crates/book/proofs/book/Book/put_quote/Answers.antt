@@ -19,7 +19,7 @@ pub insert-requires : goal.insert-requires
 insert-requires c =
     let b = c.args.self.now in
     let q = c.args.quote in
-    subst (λ (r : Row). sound_table (placed r (rows_of b)) ≡ true) (sym c.quote_row.ensures) (sound-bid c.args.maker q (rows_of b) b.sound (good-quote c.args.maker q c.requires.good) c.requires.fresh (some-bid q.bid c.if-quote-gt0.true))
+    subst (λ (r : Row). sound_table (placed r (rows_of b)) ≡ true) (sym c.quoted.ensures) (sound-bid c.args.maker q (rows_of b) b.sound (good-quote c.args.maker q c.requires.good) c.requires.fresh (some-bid q.bid c.if-quote-gt0.true))
 
 pub insert-requires-2 : goal.insert-requires-2
 insert-requires-2 c =
@@ -29,11 +29,11 @@ insert-requires-2 c =
     let good = good-quote m q c.requires.good in
     let then : sound_table (placed (offer_row m q) (rows_of c.if-quote-gt0.self)) ≡ true = elim c.if-quote-gt0.branch [
       | then-quote-gt0 w ↦
-          let is : rows_of c.if-quote-gt0.self ≡ placed (bid_row m q) (rows_of b) = ap rows_of w.self-is ∙ w.insert.ensures ∙ ap (λ (r : Row). placed r (rows_of b)) w.quote_row.ensures in
+          let is : rows_of c.if-quote-gt0.self ≡ placed (bid_row m q) (rows_of b) = ap rows_of w.self-is ∙ w.insert.ensures ∙ ap (λ (r : Row). placed r (rows_of b)) w.quoted.ensures in
           subst (λ (xs : List Row). sound_table (placed (offer_row m q) xs) ≡ true) (sym is) (sound-both m q (rows_of b) b.sound good c.requires.fresh (some-bid q.bid w.if-quote-gt0.true))
       | else-quote-gt0 w ↦ subst (λ (s : Book). sound_table (placed (offer_row m q) (rows_of s)) ≡ true) (sym w.self-is) (sound-offer m q (rows_of b) b.sound good c.requires.fresh)
     ] in
-    subst (λ (r : Row). sound_table (placed r (rows_of c.if-quote-gt0.self)) ≡ true) (sym c.quote_row-2.ensures) then
+    subst (λ (r : Row). sound_table (placed r (rows_of c.if-quote-gt0.self)) ≡ true) (sym c.quoted-2.ensures) then
 
 pub returns : goal.returns
 returns c =
@@ -43,8 +43,8 @@ returns c =
     let low = (good-quote m q c.requires.good).low in
     let put : placed (offer_row m q) (rows_of c.if-quote-gt0.self) ≡ quoted m q (rows_of b) = elim c.if-quote-gt0.branch [
       | then-quote-gt0 w ↦
-          let is : rows_of c.if-quote-gt0.self ≡ placed (bid_row m q) (rows_of b) = ap rows_of w.self-is ∙ w.insert.ensures ∙ ap (λ (r : Row). placed r (rows_of b)) w.quote_row.ensures in
+          let is : rows_of c.if-quote-gt0.self ≡ placed (bid_row m q) (rows_of b) = ap rows_of w.self-is ∙ w.insert.ensures ∙ ap (λ (r : Row). placed r (rows_of b)) w.quoted.ensures in
           ap (placed (offer_row m q)) is ∙ put_both m q (rows_of b) low c.requires.fresh (some-bid q.bid w.if-quote-gt0.true)
       | else-quote-gt0 w ↦ ap (λ (s : Book). placed (offer_row m q) (rows_of s)) w.self-is ∙ put-offer m q (rows_of b) low c.requires.fresh (no-bid q.bid w.if-quote-gt0.false)
     ] in
-    c.insert-2.ensures ∙ ap (λ (r : Row). placed r (rows_of c.if-quote-gt0.self)) c.quote_row-2.ensures ∙ put
+    c.insert-2.ensures ∙ ap (λ (r : Row). placed r (rows_of c.if-quote-gt0.self)) c.quoted-2.ensures ∙ put
