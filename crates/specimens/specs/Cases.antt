@@ -33,7 +33,7 @@ offering n p = record { bid = None; offer = Some (record { price = p; size = n }
 abbrev nobody : Side → ℕ → ℕ
 nobody side p = 0
 
-abbrev between : ℕ → ℕ → Range
+abbrev pub between : ℕ → ℕ → Range
 between low high = record { low = low; high = high }
 
 -- nothing unmatched is through the price in any of the cases

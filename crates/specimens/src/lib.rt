@@ -1,12 +1,59 @@
 //! Worked cases of the rules: facts about the definitions that the contracts cite, and the same cases as tests of the code.
 #![tactic(auto)]
 
-ghost use Rattle.specimens.specs.Cases.{WorkedCases};
+ghost use Rattle.std.specs.Prelude.{◌≡◌, [], ◌∷◌};
+ghost use Rattle.specimens.specs.Cases.{WorkedCases, between};
+
+use arrayvec::ArrayVec;
+use interest::Class;
+use ranges::{Away, BestPrices, Quotes, Range};
+use sharing::{Holding, LEVEL_ROWS, Level, SharingRule, SizeProRata};
 
 /// The worked cases follow from the definitions.
 pub fn worked_cases()
     ensures { WorkedCases }
 {}
+
+/// Ten contracts for a customer of 4 and others of 7, 5 and 3: the customer first, the others by size, rounded up.
+pub fn ten_shared() -> ArrayVec<u32, LEVEL_ROWS>
+    ensures { result.items ≡ 4 ∷ 3 ∷ 2 ∷ 1 ∷ [] }
+{
+    let mut level = Level::new();
+    let _ = level.push(Holding {
+        class: Class::Fixed,
+        size: 4,
+    });
+    let _ = level.push(Holding {
+        class: Class::Other,
+        size: 7,
+    });
+    let _ = level.push(Holding {
+        class: Class::Other,
+        size: 5,
+    });
+    let _ = level.push(Holding {
+        class: Class::Other,
+        size: 3,
+    });
+    SizeProRata.share(10, &level)
+}
+
+/// The opening range of a bid of 199 and an offer of 210 with nothing shown away.
+pub fn range_of_199_210() -> Range
+    ensures { result ≡ between 189 220 }
+{
+    let best = BestPrices {
+        quotes: Quotes {
+            bid: 199,
+            offer: 210,
+        },
+        away: Away {
+            bid: None,
+            offer: None,
+        },
+    };
+    best.opening_range()
+}
 
 #[cfg(test)]
 mod tests {
