@@ -8,7 +8,7 @@ use Rattle.market.specs.Counts.{reaches}
 use Rattle.market.specs.Levels.{level_stands, blank, Before, Foremost}
 
 -- one level more that does not stand
-passed_over : (d : Side) (ls : List DepthLevel) (i : ℕ) (o : Option ℕ) → level_stands d (get_or ls i blank) ≡ false → Foremost d ls i o → Foremost d ls (i + 1) o
+pub passed_over : (d : Side) (ls : List DepthLevel) (i : ℕ) (o : Option ℕ) → level_stands d (get_or ls i blank) ≡ false → Foremost d ls i o → Foremost d ls (i + 1) o
 passed_over d ls i None e u = λ j h. elim (cases_lt j i) [ inl l ↦ u j l | inr l ↦ let s : i ≡ j = omega arith in subst (λ (x : ℕ). level_stands d (get_or ls x blank) ≡ false) s e ]
 passed_over d ls i (Some k) e u = (
   omega (arith, u.0),
@@ -24,7 +24,7 @@ same_place Buy ls i j s = (λ a. absurd (omega arith), λ a. let p : (get_or ls 
 same_place Sell ls i j s = (λ a. absurd (omega arith), λ a. let p : (get_or ls i blank).price ≡ (get_or ls j blank).price = ap (λ (x : ℕ). (get_or ls x blank).price) s in omega arith)
 
 -- one that stands where none did
-first_found : (d : Side) (ls : List DepthLevel) (i : ℕ) → level_stands d (get_or ls i blank) ≡ true → Foremost d ls i None → Foremost d ls (i + 1) (Some i)
+pub first_found : (d : Side) (ls : List DepthLevel) (i : ℕ) → level_stands d (get_or ls i blank) ≡ true → Foremost d ls i None → Foremost d ls (i + 1) (Some i)
 first_found d ls i e u = (
   omega arith,
   e,
@@ -39,7 +39,7 @@ good-later : (d : Side) (ls : List DepthLevel) (k i j : ℕ) → k < i → i ≡
 good-later Buy ls k i j h s e = (λ a. absurd (omega arith), λ a. let p : (get_or ls i blank).price ≡ (get_or ls j blank).price = ap (λ (x : ℕ). (get_or ls x blank).price) s in let l = leb-true (get_or ls i blank).price (get_or ls k blank).price e in omega arith)
 good-later Sell ls k i j h s e = (λ a. absurd (omega arith), λ a. let p : (get_or ls i blank).price ≡ (get_or ls j blank).price = ap (λ (x : ℕ). (get_or ls x blank).price) s in let l = leb-true (get_or ls k blank).price (get_or ls i blank).price e in omega arith)
 
-still-first : (d : Side) (ls : List DepthLevel) (i k : ℕ) → reaches d (get_or ls k blank).price (get_or ls i blank).price ≡ true → Foremost d ls i (Some k) → Foremost d ls (i + 1) (Some k)
+pub still-first : (d : Side) (ls : List DepthLevel) (i k : ℕ) → reaches d (get_or ls k blank).price (get_or ls i blank).price ≡ true → Foremost d ls i (Some k) → Foremost d ls (i + 1) (Some k)
 still-first d ls i k r u = (
   omega (arith, u.0),
   u.1,
@@ -58,7 +58,7 @@ past_all Sell ls k i j h e u =
     let l = leb-false (get_or ls k blank).price (get_or ls i blank).price e in
     (λ a. elim (cases_lt j k) [ inl b ↦ omega (arith, u.0 b) | inr b ↦ omega (arith, u.1 b) ], λ a. absurd (omega arith))
 
-now-first : (d : Side) (ls : List DepthLevel) (i k : ℕ) → level_stands d (get_or ls i blank) ≡ true → reaches d (get_or ls k blank).price (get_or ls i blank).price ≡ false → Foremost d ls i (Some k) → Foremost d ls (i + 1) (Some i)
+pub now-first : (d : Side) (ls : List DepthLevel) (i k : ℕ) → level_stands d (get_or ls i blank) ≡ true → reaches d (get_or ls k blank).price (get_or ls i blank).price ≡ false → Foremost d ls i (Some k) → Foremost d ls (i + 1) (Some i)
 now-first d ls i k e r u = (
   omega arith,
   e,
@@ -73,11 +73,11 @@ abbrev pub overtakes : Side → List DepthLevel → ℕ → Option ℕ → Bool
 overtakes d ls i None = true
 overtakes d ls i (Some k) = not (reaches d (get_or ls k blank).price (get_or ls i blank).price)
 
-taken_over : (d : Side) (ls : List DepthLevel) (i : ℕ) (o : Option ℕ) → overtakes d ls i o ≡ true → level_stands d (get_or ls i blank) ≡ true → Foremost d ls i o → Foremost d ls (i + 1) (Some i)
+pub taken_over : (d : Side) (ls : List DepthLevel) (i : ℕ) (o : Option ℕ) → overtakes d ls i o ≡ true → level_stands d (get_or ls i blank) ≡ true → Foremost d ls i o → Foremost d ls (i + 1) (Some i)
 taken_over d ls i None b e u = first_found d ls i e u
 taken_over d ls i (Some k) b e u = now-first d ls i k e (not-true (reaches d (get_or ls k blank).price (get_or ls i blank).price) b) u
 
-kept : (d : Side) (ls : List DepthLevel) (i : ℕ) (o : Option ℕ) → overtakes d ls i o ≡ false → Foremost d ls i o → Foremost d ls (i + 1) o
+pub kept : (d : Side) (ls : List DepthLevel) (i : ℕ) (o : Option ℕ) → overtakes d ls i o ≡ false → Foremost d ls i o → Foremost d ls (i + 1) o
 kept d ls i None b u = absurd (true≢false b)
 kept d ls i (Some k) b u = still-first d ls i k (not-false (reaches d (get_or ls k blank).price (get_or ls i blank).price) b) u
 

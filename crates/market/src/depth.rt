@@ -1,7 +1,8 @@
 //! A depth table in the caller's memory.
-ghost use Rattle.std.specs.Prelude.{◌≡◌, ℕ, ◌-◌, ◌≤◌, length, take};
+ghost use Rattle.std.specs.Prelude.{◌≡◌, ℕ, ◌-◌, ◌≤◌, List, length, take};
 ghost use Rattle.interest.specs.Sides.{opposite};
 ghost use Rattle.market.specs.Counts.{counted, TakenFrom, SameCounts, best_of};
+ghost use Rattle.market.specs.declared.depth.DepthLevel.{DepthLevel};
 ghost use Rattle.market.specs.Levels.{level_stands, level_shows, levels_show, Foremost, Sent, TableSent};
 ghost use Rattle.market.specs.Depths.{levels-mono, levels-edge};
 
@@ -57,8 +58,9 @@ fn foremost(levels: &[DepthLevel], side: Side) -> Option<usize>
 {
     let mut first: Option<usize> = None;
     for (at, level) in levels.iter().enumerate() {
-        let is_better = first.is_none_or(|k| !reached(side, levels[k].price, level.price));
-        if is_better && level.stands_on(side) {
+        if level.stands_on(side)
+            && first.is_none_or(|k| !reached(side, levels[k].price, level.price))
+        {
             first = Some(at);
         }
     }
@@ -107,42 +109,74 @@ fn send_of(levels: &mut [DepthLevel], side: Side, price: u32, n: u32) -> u32
     n - left
 }
 
-/// A market whose contracts are the first `LEVELS` levels of a table; the memory stays the caller's.
-#[derive(Drop)]
-pub struct DepthTable<'a> {
-    pub levels: &'a mut [DepthLevel],
+/// The levels of a table that count.
+fn counting(levels: &[DepthLevel]) -> &[DepthLevel]
+    ensures { result.now ≡ take 64 levels.now }
+{
+    let top = levels.len().min(LEVELS);
+    &levels[..top]
 }
 
-impl DepthTable<'_> {
-    /// The levels that count.
-    fn counting(&self) -> &[DepthLevel]
-        ensures { result.now ≡ take 64 self.now.levels.now }
-    {
-        let top = self.levels.len().min(LEVELS);
-        &self.levels[..top]
+/// A table of levels, of which the first `LEVELS` count; the memory stays the caller's.
+pub trait Table {
+    /// All levels of the table, those past the 64th too.
+    ghost levels: { Self → List DepthLevel };
+
+    fn best_level(&self, side: Side) -> Option<u32>
+        ensures { result ≡ best_of side (levels_show side (take 64 (levels self.now))) };
+
+    fn count_levels(&self, side: Side, price: u32, n: u32) -> u32
+        ensures { result ≡ counted (levels_show side (take 64 (levels self.now))) price n };
+
+    fn send_levels(&mut self, side: Side, price: u32, n: u32) -> u32
+        ensures answer { result ≡ counted (levels_show side (take 64 (levels self.old))) price n }
+        ensures taken { TakenFrom (levels_show side (take 64 (levels self.old))) result (levels_show side (take 64 (levels self.new))) }
+        ensures stays { SameCounts (levels_show (opposite side) (take 64 (levels self.old))) (levels_show (opposite side) (take 64 (levels self.new))) }
+        ensures table { TableSent side price n (levels self.old) (levels self.new) };
+}
+
+impl Table for &mut [DepthLevel] {
+    ghost levels = { λ s. s.now };
+
+    fn best_level(&self, side: Side) -> Option<u32> {
+        best_of(counting(self), side)
+    }
+
+    fn count_levels(&self, side: Side, price: u32, n: u32) -> u32 {
+        count_of(counting(self), side, price, n)
+    }
+
+    fn send_levels(&mut self, side: Side, price: u32, n: u32) -> u32 {
+        send_of(self, side, price, n)
     }
 }
 
-impl ShownMarket for DepthTable<'_> {
-    ghost shown = { λ s d p. levels_show d (take 64 s.levels.now) p };
+/// A market whose contracts are the levels of a table.
+#[derive(Drop)]
+pub struct DepthTable<T> {
+    pub table: T,
+}
 
-    ghost worsens = { λ s d p q h. levels-mono d (take 64 s.levels.now) p q h };
+impl<T: Table> ShownMarket for DepthTable<T> {
+    ghost shown = { λ s d p. levels_show d (take 64 (T.Table.levels s.table)) p };
 
-    ghost edge = { λ s d. levels-edge d (take 64 s.levels.now) };
+    ghost worsens = { λ s d p q h. levels-mono d (take 64 (T.Table.levels s.table)) p q h };
+
+    ghost edge = { λ s d. levels-edge d (take 64 (T.Table.levels s.table)) };
 
     fn best(&self, side: Side) -> Option<u32> {
-        best_of(self.counting(), side)
+        self.table.best_level(side)
     }
 
     fn count(&self, side: Side, price: u32, n: u32) -> u32 {
-        count_of(self.counting(), side, price, n)
+        self.table.count_levels(side, price, n)
     }
 }
 
-impl Market for DepthTable<'_> {
-    ghost leaves = { λ d p n _ s t. TableSent d p n s.levels.now t.levels.now };
+impl<T: Table> Market for DepthTable<T> {
+    ghost leaves = { λ d p n _ s t. TableSent d p n (T.Table.levels s.table) (T.Table.levels t.table) };
 
     fn send(&mut self, side: Side, price: u32, n: u32) -> u32 {
-        send_of(self.levels, side, price, n)
+        self.table.send_levels(side, price, n)
     }
 }

@@ -27,11 +27,10 @@ fn the_best_price_goes_first(rt: HostRuntime) {
             size: 20,
         },
     ];
+    let table: &mut [DepthLevel] = &mut levels;
     let mut market = Pair {
         first: offering(103, 10),
-        second: DepthTable {
-            levels: &mut levels,
-        },
+        second: DepthTable { table },
     };
     assert_eq!(rt; market.best(Side::Sell), Some(102));
     assert_eq!(rt; market.send(Side::Sell, 103, 25), 25);
@@ -86,9 +85,8 @@ fn sixty_four_levels_count(rt: HostRuntime) {
         price: 60,
         size: 1,
     };
-    let market = DepthTable {
-        levels: &mut levels,
-    };
+    let table: &mut [DepthLevel] = &mut levels;
+    let market = DepthTable { table };
     assert_eq!(rt; market.best(Side::Buy), Some(50));
     assert_eq!(rt; market.count(Side::Buy, 40, 9), 1);
 }

@@ -35,7 +35,7 @@ const NOTHING: SingleMarket = SingleMarket {
 };
 
 /// A script's market, which borrows the levels.
-type AwayMarket<'a> = FirmSwitch<Pair<SingleMarket, DepthTable<'a>>>;
+type AwayMarket<'a> = FirmSwitch<Pair<SingleMarket, DepthTable<&'a mut [DepthLevel]>>>;
 
 impl Venues {
     /// Nothing is shown, and the switch is on.
@@ -98,7 +98,7 @@ impl Venues {
             market: Pair {
                 first: self.single,
                 second: DepthTable {
-                    levels: self.levels.as_mut_slice(),
+                    table: self.levels.as_mut_slice(),
                 },
             },
         };
