@@ -17,6 +17,13 @@ claimed_in-cons from c cs =
       | false ↦ sym (zero-add (sum_by part rest))
     ]
 
+-- as the code sums it: each claim, with 0 for one that is too small
+pub claimed_in-each : (from : ℕ) (cs : List Claim) → sum_by (λ (c : Claim). cond (nat_le from c.size) c.part 0) cs ≡ claimed_in from cs
+claimed_in-each from [] = refl
+claimed_in-each from (c ∷ cs) =
+    let counted : Claim → ℕ = λ x. cond (nat_le from x.size) x.part 0 in
+    sum_by-cons counted c cs ∙ ap (λ n. counted c + n) (claimed_in-each from cs) ∙ sym (claimed_in-cons from c cs)
+
 pub claimed_in-le : (from : ℕ) (cs : List Claim) → claimed_in from cs ≤ sum (parts_in cs)
 claimed_in-le from cs =
     let part : Claim → ℕ = λ x. x.part in

@@ -2,4 +2,3 @@
 pub mod Pushes
 pub mod Sums
 pub mod ClaimFacts
-pub mod Choosing

@@ -1,6 +1,7 @@
 -- Totals of lists.
-use Rattle.std.proofs.Common.{◌≡◌, ℕ, ◌+◌, ◌*◌, ◌<◌, ◌≤◌, Bool, true, false, cond, List, [], ◌∷◌, ◌++◌, length, get_or, take, sum, zero, suc, nat_le, refl, sym, ap, ap₂, ◌∙◌, arith}
-use Rattle.std.proofs.lemmas.List.{map_more}
+use Rattle.std.proofs.Common.{◌≡◌, ℕ, ◌+◌, ◌*◌, ◌<◌, ◌≤◌, Bool, true, false, cond, List, [], ◌∷◌, ◌++◌, length, get_or, take, drop, sum, zero, suc, nat_le, refl, sym, ap, ap₂, ◌∙◌, arith}
+use Rattle.std.specs.List.{refill}
+use Rattle.std.proofs.lemmas.List.{map_more, take_at}
 use Rattle.std.proofs.lemmas.List.Sums.{sum_by-cons}
 use Rattle.std.proofs.lemmas.Bool.{and_parts, leb-true}
 use Rattle.interest.specs.Bounds.{sized}
@@ -32,3 +33,7 @@ total-more rows xs ys i n false d sound lt e is small = omega (arith, e, ap tota
 pub sizes-more : (test : Class → Bool) (rows : List Holding) (xs ys : List ℕ) (i n : ℕ) (b : Bool) (d : Holding) → i < length rows → n ≡ cond b (get_or rows i d).size 0 → b ≡ test (get_or rows i d).class → ys ≡ xs ++ n ∷ [] → xs ≡ sizes_where test (take i rows) → ys ≡ sizes_where test (take (i + 1) rows)
 sizes-more test rows xs ys i n b d lt e says is so_far =
     is ∙ ap₂ (λ (w : List ℕ) (m : ℕ). w ++ m ∷ []) so_far (e ∙ ap (λ (t : Bool). cond t (get_or rows i d).size 0) says) ∙ sym (map_more (size_where test) rows i d lt)
+
+-- a list lent whole and given back as long as it was
+pub given_back : (ns ms : List ℕ) → length ms ≡ length ns → refill (length ns) ns ms ≡ ms
+given_back ns ms e = take_at ms (drop (length ms) ns) (length ns) e

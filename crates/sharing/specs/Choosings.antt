@@ -1,9 +1,13 @@
 -- Customers' shares from one list and the others' from another.
-use Rattle.std.specs.Prelude.{◌≡◌, ℕ, zero, suc, ◌+◌, ◌<◌, ◌≤◌, Bool, true, false, cond, List, [], ◌∷◌, length, slice_index, refl}
-use Rattle.std.proofs.Common.{ap, ap₂, arith}
+use Rattle.std.specs.Prelude.{◌≡◌, ℕ, zero, suc, ◌+◌, ◌*◌, ◌<◌, ◌≤◌, Bool, true, false, cond, List, [], ◌∷◌, ◌++◌, length, take, drop, nat_le, slice_index, slice_index_or, slice_set, refl}
+use Rattle.std.proofs.Common.{sym, ap, ap₂, ◌∙◌, arith}
+use Rattle.std.proofs.lemmas.List.{take_more_set, drop-set-lt, drop_more, append_assoc, append-nil, take_all, drop_all}
+use Rattle.std.proofs.lemmas.Bool.{and_parts, leb-true}
+use Rattle.interest.specs.Bounds.{sized}
 use Rattle.sharing.specs.declared.level.Holding.{Holding}
 use Rattle.interest.specs.declared.Class.{Class}
 use Rattle.interest.specs.declared.Class.TheVariants.{Routable, Fixed, Other}
+use Rattle.sharing.specs.Holdings.{all_sized}
 use Rattle.sharing.specs.Totals.{total, contracts, EachAtMost}
 use Rattle.sharing.specs.Sizes.{of_customer, of_other, sizes_where}
 use Rattle.sharing.specs.ProRata.{chosen}
@@ -31,6 +35,16 @@ class-customer : (k : Class) (n c o : ℕ) → 0 < cond (of_customer k) n 0 → 
 class-customer Routable n c o lt = refl
 class-customer Fixed n c o lt = refl
 class-customer Other n c o lt = absurd (omega arith)
+
+size-if-le : (b : Bool) (n : ℕ) → cond b n 0 ≤ n
+size-if-le true n = omega arith
+size-if-le false n = omega arith
+
+pub sizes-small : (counts : Class → Bool) (rows : List Holding) → all_sized rows ≡ true → total (sizes_where counts rows) ≤ length rows * 1000000
+sizes-small counts [] e = omega arith
+sizes-small counts (h ∷ rows) e =
+    let both = and_parts (sized h.size) (all_sized rows) e in
+    omega (arith, size-if-le (counts h.class) h.size, leb-true h.size 1000000 (and_parts (nat_le 1 h.size) (nat_le h.size 1000000) both.0).1, sizes-small counts rows both.1)
 
 pub sizes-whole : (rows : List Holding) → total (sizes_where of_customer rows) + total (sizes_where of_other rows) ≡ total (contracts rows)
 sizes-whole [] = refl
@@ -91,3 +105,17 @@ where-customers t (h ∷ rows) [] os ec eo some = absurd (omega arith)
 where-customers t (h ∷ rows) (c ∷ cs) [] ec eo some = absurd (omega arith)
 where-customers t (h ∷ rows) (c ∷ cs) (o ∷ os) ec eo some =
     ap₂ ◌+◌ (cond_same (t 0) (cond (of_customer h.class) c o) c (λ e. class-customer h.class h.size c o (some 0 e))) (where-customers (λ j. t (suc j)) rows cs os (omega arith) (omega arith) (λ j. some (suc j)))
+
+-- a step of the loop
+pub chosen_more : (rows : List Holding) (cs os : List ℕ) (i y : ℕ) (h : Holding) → i < length rows → i < length cs → i < length os
+    → y ≡ cond (of_customer (slice_index_or rows i h).class) (slice_index cs i) (slice_index os i)
+    → take (i + 1) (slice_set cs i y) ++ chosen (drop (i + 1) rows) (drop (i + 1) (slice_set cs i y)) (drop (i + 1) os) ≡ take i cs ++ chosen (drop i rows) (drop i cs) (drop i os)
+chosen_more rows cs os i y h lr lc lo e =
+    let rest = chosen (drop (i + 1) rows) (drop (i + 1) cs) (drop (i + 1) os) in
+    let a : take (i + 1) (slice_set cs i y) ++ chosen (drop (i + 1) rows) (drop (i + 1) (slice_set cs i y)) (drop (i + 1) os) ≡ (take i cs ++ y ∷ []) ++ rest = ap₂ ◌++◌ (take_more_set cs i y lc) (ap (λ (w : List ℕ). chosen (drop (i + 1) rows) w (drop (i + 1) os)) (drop-set-lt (i + 1) cs i y (omega arith))) in
+    let b : (take i cs ++ y ∷ []) ++ rest ≡ take i cs ++ (y ∷ rest) = append_assoc (take i cs) (y ∷ []) rest in
+    let d : chosen (drop i rows) (drop i cs) (drop i os) ≡ cond (of_customer (slice_index_or rows i h).class) (slice_index cs i) (slice_index os i) ∷ rest = rw (drop_more rows i h lr, drop_more cs i 0 lc, drop_more os i 0 lo) in
+    a ∙ b ∙ ap (λ (w : List ℕ). take i cs ++ w) (ap (λ (x : ℕ). x ∷ rest) e ∙ sym d)
+
+pub chosen-end : (rows : List Holding) (cs os : List ℕ) (i : ℕ) → length rows ≤ i → length cs ≤ i → cs ≡ take i cs ++ chosen (drop i rows) (drop i cs) (drop i os)
+chosen-end rows cs os i le long = sym (ap₂ ◌++◌ (take_all i cs long) (ap (λ (w : List Holding). chosen w (drop i cs) (drop i os)) (drop_all i rows le)) ∙ append-nil cs)

@@ -4,7 +4,7 @@ use Rattle.std.proofs.Common.{ap, ◌∙◌, inl, inr, arith}
 use Rattle.std.proofs.lemmas.List.{length-map, get_or_past}
 use Rattle.std.proofs.lemmas.Bool.{cases_lt, and_parts, ltb-true}
 use Rattle.sharing.specs.declared.level.Holding.{Holding}
-use Rattle.sharing.specs.Totals.{total, contracts, EachAtMost}
+use Rattle.sharing.specs.Totals.{total, contracts, EachAtMost, padded}
 use Rattle.sharing.specs.Sizes.{of_customer, of_other, size_where, sizes_where}
 use Rattle.sharing.specs.InOrder.{in_order}
 use Rattle.sharing.specs.ProRata.{part, pro_rata, after_customers, size_shares}
@@ -15,7 +15,8 @@ use Rattle.sharing.specs.Claims.{at-le-total}
 use Rattle.sharing.specs.RankTotals.{rank-whole, rank-length, rank-within}
 use Rattle.sharing.specs.RankPlaces.{rank-part, rank_left, rank-larger, rank-earlier}
 use Rattle.sharing.specs.Choosings.{sizes-whole, chosen-length, chosen-within, chosen-whole, chosen-other, chosen-customer, where-others, where-customers}
-use Rattle.sharing.specs.Turns.{order-turn, rank-turn, before-earlier, before-later, before-sized, customer-earlier, customer-later}
+use Rattle.sharing.specs.Turns.{order-turn, rank-turn, where-padded, before-earlier, before-later, before-sized, customer-earlier, customer-later}
+use Rattle.sharing.specs.Pads.{pad-at}
 
 pub rata-length : (q : ℕ) (ns : List ℕ) → length (pro_rata q ns) ≡ length ns
 rata-length q ns = rank-length _ _ [] ns
@@ -29,10 +30,10 @@ rata-whole q ns =
     omega (arith, rank-whole (part given (total ns)) given ns, parts-cover given ns (omega arith))
 
 module _ (q : ℕ) (rows : List Holding) where
-  long-customers : length (in_order q (sizes_where of_customer rows)) ≡ length rows
+  pub long-customers : length (in_order q (sizes_where of_customer rows)) ≡ length rows
   long-customers = order-length q (sizes_where of_customer rows) ∙ length-map rows (size_where of_customer)
 
-  long-others : length (pro_rata (after_customers q rows) (sizes_where of_other rows)) ≡ length rows
+  pub long-others : length (pro_rata (after_customers q rows) (sizes_where of_other rows)) ≡ length rows
   long-others = rata-length (after_customers q rows) (sizes_where of_other rows) ∙ length-map rows (size_where of_other)
 
   pub size-length : length (size_shares q rows) ≡ length rows
@@ -97,4 +98,18 @@ module _ (q : ℕ) (rows : List Holding) where
         earlier_first = λ i j before other e.
             let more = rank-earlier (part given whole) given [] (sizes_where of_other rows) i j before (there j other) e in
             omega (arith, other-is j other, other-is i (omega arith), more);
+      }
+
+  pub padded-by-size : SharedBySize q rows (padded (size_shares q rows))
+  padded-by-size =
+      let shares = size_shares q rows in
+      let k = shared-by-size in
+      record {
+        customers_in_turn = λ i customer. omega (arith, pad-at shares i, k.customers_in_turn i customer, where-padded (customer_before rows i) shares);
+        others_in_turn = λ i other. omega (arith, pad-at shares i, k.others_in_turn i other, where-padded (served_before rows i) shares);
+        parts_round_up = k.parts_round_up;
+        customers_first = λ i j customer other share. pad-at shares i ∙ k.customers_first i j customer other (omega (arith, pad-at shares j));
+        at_most_part = λ i other. omega (arith, pad-at shares i, k.at_most_part i other);
+        larger_first = λ i j other less. omega (arith, pad-at shares i, pad-at shares j, k.larger_first i j other less);
+        earlier_first = λ i j before other e. omega (arith, pad-at shares i, pad-at shares j, k.earlier_first i j before other e);
       }

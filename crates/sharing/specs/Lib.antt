@@ -16,3 +16,4 @@ pub mod RankTotals
 pub mod RankPlaces
 pub mod Choosings
 pub mod Turns
+pub mod Pads

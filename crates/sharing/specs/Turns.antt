@@ -1,9 +1,9 @@
 -- What the rows served before a row get together, and so what remains for it.
-use Rattle.std.specs.Prelude.{◌≡◌, ℕ, zero, suc, ◌+◌, ◌-◌, ◌<◌, ◌≤◌, min, Bool, true, false, cond, ◌&&◌, ◌||◌, List, [], ◌∷◌, ◌++◌, length, take, drop, ◌==◌, nat_le, nat_lt, slice_index, slice_index_or, refl}
+use Rattle.std.specs.Prelude.{◌≡◌, ℕ, zero, suc, ◌+◌, ◌-◌, ◌<◌, ◌≤◌, min, Bool, true, false, cond, ◌&&◌, ◌||◌, List, [], ◌∷◌, ◌++◌, length, take, drop, replicate, ◌==◌, nat_le, nat_lt, slice_index, slice_index_or, refl}
 use Rattle.std.proofs.Common.{ap, ap₂, arith, drop-cons}
 use Rattle.std.proofs.lemmas.List.{append_assoc, append-nil}
 use Rattle.std.proofs.lemmas.Bool.Decides.{nat_tests}
-use Rattle.sharing.specs.Totals.{total}
+use Rattle.sharing.specs.Totals.{total, padded}
 use Rattle.sharing.specs.InOrder.{in_order}
 use Rattle.sharing.specs.ProRata.{claimed, by_rank}
 use Rattle.sharing.specs.Promises.{shares_where}
@@ -13,6 +13,18 @@ use Rattle.sharing.specs.RankTotals.{share, shared_from, shared_at, split, level
 where-none : (t : ℕ → Bool) (xs : List ℕ) → ((j : ℕ) → t j ≡ false) → shares_where t xs ≡ 0
 where-none t [] h = refl
 where-none t (x ∷ xs) h = omega (arith, ap (λ (b : Bool). cond b x 0) (h 0), where-none (λ j. t (suc j)) xs (λ j. h (suc j)))
+
+none : (b : Bool) → ◌≡◌ {A = ℕ} (cond b 0 0) 0
+none true = refl
+none false = refl
+
+where-zeros : (t : ℕ → Bool) (xs : List ℕ) (m : ℕ) → shares_where t (xs ++ replicate m 0) ≡ shares_where t xs
+where-zeros t [] zero = refl
+where-zeros t [] (suc m) = omega (arith, none (t 0), where-zeros (λ j. t (suc j)) [] m)
+where-zeros t (x ∷ xs) m = omega (arith, where-zeros (λ j. t (suc j)) xs m)
+
+pub where-padded : (t : ℕ → Bool) (xs : List ℕ) → shares_where t (padded xs) ≡ shares_where t xs
+where-padded t xs = where-zeros t xs (128 - length xs)
 
 -- in order: the test is passed by the earlier ones that have a size
 pub order-turn : (q : ℕ) (ns : List ℕ) (t : ℕ → Bool) (i : ℕ)

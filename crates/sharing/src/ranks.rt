@@ -1,5 +1,5 @@
 //! Sharing among claims, the largest size first.
-ghost use Rattle.std.specs.Prelude.{◌≡◌, ◌^◌, ◌<◌, ◌≤◌, [], map, min, sum};
+ghost use Rattle.std.specs.Prelude.{◌≡◌, ◌^◌, ◌<◌, ◌≤◌, [], cond, map, min, nat_le, sum};
 ghost use Rattle.sharing.specs.ProRata.{part};
 ghost use Rattle.sharing.specs.Ranked.{sizes_in, parts_in, claimed_in, ranked};
 
@@ -24,16 +24,22 @@ pub(crate) struct Claims {
     ghost parts: { sum (parts_in each.items) ≤ 128000000 },
 }
 
+impl Claim {
+    /// The part of a size that is `from` or larger, else 0.
+    fn part_from(self, from: u32) -> u32
+        ensures { result ≡ cond (nat_le from self.size) self.part 0 }
+    {
+        if from <= self.size { self.part } else { 0 }
+    }
+}
+
 /// The parts of the claims whose size is `from` or larger.
+// This runs twice for each row of a level: a sum of all, some of them 0, takes several claims at a time, a filter none.
 fn claimed_from(from: u32, claims: &[Claim]) -> u32
     requires { sum (parts_in claims.now) < 2 ^ 32 }
     ensures { result ≡ claimed_in from claims.now }
 {
-    claims
-        .iter()
-        .filter(|claim| from <= claim.size)
-        .map(|claim| claim.part)
-        .sum()
+    claims.iter().map(|claim| claim.part_from(from)).sum()
 }
 
 /// Each size with its part of what is given.

@@ -1,15 +1,17 @@
 //! Sharing by size: customers first, then the others in proportion to their sizes.
-ghost use Rattle.std.specs.Prelude.{◌≡◌};
+ghost use Rattle.std.specs.Prelude.{◌≡◌, cond, length};
 ghost use Rattle.sharing.specs.Levels.{rows_of};
+ghost use Rattle.sharing.specs.Sizes.{of_customer};
 ghost use Rattle.sharing.specs.ProRata.{chosen, pro_rata, size_shares};
 ghost use Rattle.sharing.specs.Promises.{SharedBySize};
 ghost use Rattle.sharing.specs.Keeping.{size-length, size-within, size-whole};
 
-use crate::level::{LEVEL_ROWS, Level};
+use crate::level::{Holding, LEVEL_ROWS, Level};
 use crate::ranks::Claims;
 use crate::rule::SharingRule;
-use crate::sizes::{Sizes, of_customer};
+use crate::sizes::{Sizes, fill_in_order, of_customer, sizes_where};
 use arrayvec::ArrayVec;
+use interest::Class;
 
 /// A quantity, or the whole if that is less, in proportion to the sizes.
 fn share_pro_rata(quantity: u32, sizes: &Sizes) -> ArrayVec<u32, LEVEL_ROWS>
@@ -18,20 +20,22 @@ fn share_pro_rata(quantity: u32, sizes: &Sizes) -> ArrayVec<u32, LEVEL_ROWS>
     Claims::on(quantity, sizes).by_rank()
 }
 
-/// A customer's share from the first, another's from the second.
-fn chosen(level: &Level, customers: &[u32], others: &[u32]) -> ArrayVec<u32, LEVEL_ROWS>
-    ensures { result.items ≡ chosen (rows_of level.now) customers.now others.now }
+/// A customer's share, or another's.
+fn share_for(class: Class, customer: u32, other: u32) -> u32
+    ensures { result ≡ cond (of_customer class) customer other }
 {
-    let rows = level.holdings();
-    let mut shares = ArrayVec::new();
-    for ((row, customer), other) in rows.iter().zip(customers).zip(others) {
-        shares.push(if of_customer(row.class) {
-            *customer
-        } else {
-            *other
-        });
+    if of_customer(class) { customer } else { other }
+}
+
+/// Puts in the shares of those who are no customers.
+fn put_others(rows: &[Holding], others: &[u32], shares: &mut [u32])
+    requires long { length shares.old ≡ length rows.now }
+    requires same { length others.now ≡ length rows.now }
+    ensures { shares.new ≡ chosen rows.now shares.old others.now }
+{
+    for (i, row) in rows.iter().enumerate() {
+        shares[i] = share_for(row.class, shares[i], others[i]);
     }
-    shares
 }
 
 /// The customers in order, then the others from the largest in proportion to their sizes.
@@ -51,13 +55,10 @@ impl SharingRule for SizeProRata {
         ensures shares { result.items ≡ size_shares quantity (rows_of level.now) }
         ensures turns { SharedBySize quantity (rows_of level.now) result.items }
     {
-        let customers = Sizes::of(level, of_customer);
-        let others = Sizes::of(level, |class| !of_customer(class));
-        let left = quantity.saturating_sub(customers.whole);
-        chosen(
-            level,
-            &customers.in_order(quantity),
-            &share_pro_rata(left, &others),
-        )
+        let mut shares = sizes_where(level, of_customer);
+        let left = fill_in_order(quantity, shares.as_mut_slice());
+        let others = share_pro_rata(left, &Sizes::of(level, |class| !of_customer(class)));
+        put_others(level.holdings(), &others, shares.as_mut_slice());
+        shares
     }
 }

@@ -1,5 +1,5 @@
 //! The sizes of the rows that count.
-ghost use Rattle.std.specs.Prelude.{◌≡◌, ◌≤◌, Bool};
+ghost use Rattle.std.specs.Prelude.{◌≡◌, ◌-◌, ◌≤◌, Bool};
 ghost use Rattle.interest.specs.declared.Class.{Class as ClassOf};
 ghost use Rattle.sharing.specs.Levels.{rows_of};
 ghost use Rattle.sharing.specs.Totals.{total};
@@ -27,7 +27,10 @@ pub(crate) struct Sizes {
 }
 
 /// The size of each row whose class counts, and 0 for each other.
-fn sizes_where<F: Fn(Class) -> bool>(level: &Level, counts: F) -> ArrayVec<u32, LEVEL_ROWS>
+pub(crate) fn sizes_where<F: Fn(Class) -> bool>(
+    level: &Level,
+    counts: F,
+) -> ArrayVec<u32, LEVEL_ROWS>
     requires { F.IsAlwaysCallable counts }
     ensures sizes { (test : ClassOf → Bool) → AnswersAs test (F.post counts) → result.items ≡ sizes_where test (rows_of level.now) }
     ensures small { total result.items ≤ 128000000 }
@@ -49,18 +52,17 @@ impl Sizes {
         let whole = each.iter().sum();
         Sizes { each, whole }
     }
+}
 
-    /// Each size in order, or as much as is left of the quantity.
-    pub(crate) fn in_order(&self, quantity: u32) -> ArrayVec<u32, LEVEL_ROWS>
-        ensures { result.items ≡ in_order quantity self.now.each.items }
-    {
-        let mut left = quantity;
-        let mut shares = ArrayVec::new();
-        for size in self.each.iter() {
-            let share = (*size).min(left);
-            shares.push(share);
-            left -= share;
-        }
-        shares
+/// Turns sizes into shares, each in order as much as is left of the quantity; answers what is left at the end.
+pub(crate) fn fill_in_order(quantity: u32, shares: &mut [u32]) -> u32
+    ensures shares { shares.new ≡ in_order quantity shares.old }
+    ensures left { result ≡ quantity - total shares.old }
+{
+    let mut left = quantity;
+    for share in shares.iter_mut() {
+        *share = (*share).min(left);
+        left -= *share;
     }
+    left
 }

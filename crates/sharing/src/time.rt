@@ -7,7 +7,7 @@ ghost use Rattle.sharing.specs.InOrders.{order-length, order-within, order-whole
 
 use crate::level::{LEVEL_ROWS, Level};
 use crate::rule::SharingRule;
-use crate::sizes::Sizes;
+use crate::sizes::{fill_in_order, sizes_where};
 use arrayvec::ArrayVec;
 
 /// The rows in order, each as much as is left of the quantity.
@@ -24,7 +24,8 @@ impl SharingRule for TimePriority {
     ghost whole = { λ x q rows. order-whole q (contracts rows) };
 
     fn share(&self, quantity: u32, level: &Level) -> ArrayVec<u32, LEVEL_ROWS> {
-        let sizes = Sizes::of(level, |_| true);
-        sizes.in_order(quantity)
+        let mut shares = sizes_where(level, |_| true);
+        fill_in_order(quantity, shares.as_mut_slice());
+        shares
     }
 }
