@@ -19,6 +19,6 @@ pub fn morning_line_of(words: &[&[u8]]) -> Option<MorningLine>
 {
     match auction_call_of(words) {
         Some(call) => Some(MorningLine::Auction(call)),
-        None => line_of(words).map(MorningLine::Other),
+        None => Some(MorningLine::Other(line_of(words)?)),
     }
 }

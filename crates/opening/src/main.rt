@@ -26,7 +26,8 @@ use std::io::{BufRead, BufReader};
 const CURVE_PRICES: u32 = 1_000;
 
 fn print_shares(rt: &HostRuntime, call: ShareCall) -> io::Result<()> {
-    let answer = Shares(call.shares());
+    let shares = call.shares();
+    let answer = Shares(&shares);
     println!(rt; "{answer}")
 }
 

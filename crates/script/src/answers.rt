@@ -2,15 +2,13 @@
 ghost use Rattle.std.specs.Prelude.{◌≡◌, Some};
 ghost use Rattle.script.specs.AnswerTexts.{shares_text, price_text, quick_text, ranges_text, answer_text, yes_or_no};
 
-use arrayvec::ArrayVec;
 use pricing::search::Choice;
 use ranges::Range;
-use sharing::LEVEL_ROWS;
 use std::fmt;
 
 /// The answer to `share`: what each row of a level gets, in row order.
-#[derive(Drop)]
-pub struct Shares(pub ArrayVec<u32, LEVEL_ROWS>);
+#[derive(Clone, Copy)]
+pub struct Shares<'a>(pub &'a [u32]);
 
 /// A chosen price.
 #[derive(Clone, Copy)]
@@ -52,12 +50,12 @@ fn yes_or_no(answer: bool) -> &'static str
     if answer { "yes" } else { "no" }
 }
 
-impl fmt::Display for Shares {
-    ghost output = { λ s. Some (shares_text s.0.items) };
+impl fmt::Display for Shares<'_> {
+    ghost output = { λ s. Some (shares_text s.0.now) };
 
     fn fmt<W: fmt::Write>(&self, f: &mut fmt::Formatter<W>) -> fmt::Result {
         write!(f, "shares")?;
-        for share in self.0.as_slice() {
+        for share in self.0 {
             write!(f, " {share}")?;
         }
         Ok(())

@@ -21,7 +21,7 @@ pub fn line_of(words: &[&[u8]]) -> Option<Line>
 {
     match words {
         [] | [[], ..] | [[b'#', ..], ..] => Some(Line::Silent),
-        [name, ..] if is(name, "share") => share_call(words).map(Line::Share),
-        _ => call_of(words).map(Line::Call),
+        [name, ..] if is(name, "share") => Some(Line::Share(share_call(words)?)),
+        _ => Some(Line::Call(call_of(words)?)),
     }
 }

@@ -5,4 +5,4 @@ use Rattle.script.specs.AnswerTexts.{shares_text}
 use Rattle.script.proofs.answers.SharesDisplay.fmt.Given as goal
 
 abbrev pub invariant-loop-share : goal.invariant-loop-share
-invariant-loop-share g l = IsPlainFormatter l.fn.f → HasWritten g.W.Write.write_str_gives l.fn.f (shares_text (take l.share-index l.self.0.items)) l.f
+invariant-loop-share g l = IsPlainFormatter l.fn.f → HasWritten g.W.Write.write_str_gives l.fn.f (shares_text (take l.share-index l.self.0.now)) l.f
