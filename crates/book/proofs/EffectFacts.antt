@@ -1,10 +1,11 @@
 -- What follows from each call on a table, for readings and sums.
-use Rattle.std.proofs.Common.{◌≡◌, ℕ, ◌+◌, ◌≤◌, Bool, true, false, cond, not, ◌&&◌, eqb, leb, List, [], ◌∷◌, Some, None, filter, sym, refl, ap, ◌∙◌, subst, inl, inr, arith}
+use Rattle.std.proofs.Common.{◌≡◌, ℕ, ◌+◌, ◌≤◌, Bool, true, false, cond, not, ◌&&◌, eqb, leb, List, [], ◌∷◌, Some, None, Ok, Err, filter, sym, refl, ap, ◌∙◌, subst, inl, inr, arith}
 use Rattle.std.specs.Option.{option_map}
 use Rattle.std.specs.List.{AllByRecursion}
-use Rattle.std.proofs.lemmas.Bool.{and_parts, and_left, and_right, and_from, cond-true, cond-false, eq-eqb, leb-true, cases_Bool, not-true, not-false, not_from_true, not_from_false}
+use Rattle.std.proofs.lemmas.Bool.{and_parts, and_left, and_right, and_from, cond-true, cond-false, eq-eqb, ne_eqb, leb-true, cases_Bool, not-true, not-false, not_from_true, not_from_false}
 use Rattle.std.proofs.ByRecursion.{All-weaker, kept_by_passes}
 use Rattle.std.proofs.lemmas.List.Sums.{sum_by-cons}
+use Rattle.interest.specs.declared.Refusal.TheVariants.{NumberOutOfBounds}
 use Rattle.interest.specs.Bounds.{maker_numbered}
 use Rattle.interest.specs.declared.Side.{Side}
 use Rattle.interest.specs.declared.Side.TheVariants.{Buy, Sell}
@@ -15,7 +16,7 @@ use Rattle.book.specs.declared.row.Quote.{Quote}
 use Rattle.book.specs.Rows.{sound_table, is_order, is_quote_of}
 use Rattle.book.specs.Ranks.{of_side, total_of, contracts}
 use Rattle.book.specs.Reads.{is_quote_side, first, reading_of}
-use Rattle.book.specs.Edits.{order_row, bid_row, offer_row, quote_rows, placed, added, without_order, without_quote, quoted, add_cause, quote_out_cause, left_in, left_of_quote}
+use Rattle.book.specs.Edits.{order_row, bid_row, offer_row, quote_rows, placed, added, without_order, without_quote, quoted, add_cause, quote_out_cause, take_out_answer, left_or_refused, left_in, left_of_quote}
 use Rattle.book.specs.Effects.{taken_back_on, OrderAdded, OrderOut, QuoteTaken, QuoteSet, QuoteOut}
 use Rattle.book.proofs.SoundFacts.{sound-kept, kept-all}
 use Rattle.book.proofs.ReadFacts.{first-none, first-kept}
@@ -143,6 +144,11 @@ module _ (m : ℕ) (quote : Quote) (rows : List Row) (h : sound_table rows ≡ t
     | inl e ↦ subst (QuoteSet m quote (left_of_quote m rows) rows) (put-offer m quote rest good.low none e ∙ quoted-fresh m quote rows) (set-offer e)
     | inr e ↦ subst (QuoteSet m quote (left_of_quote m rows) rows) (put_both m quote rest good.low none e ∙ quoted-fresh m quote rows) (set_both e)
   ]
+
+-- what is answered
+
+pub take-out-answer : (n : ℕ) (rows : List Row) (row : Row) → (n ≡ 0 → ⊥) → first (is_order n) rows ≡ Some row → take_out_answer n rows ≡ Ok row.left
+take-out-answer n rows row ne e = cond-false (eqb n 0) (Err NumberOutOfBounds) (left_or_refused (first (is_order n) rows)) (ne_eqb n 0 ne) ∙ ap left_or_refused e
 
 pub quote-out-low : (m : ℕ) (rows : List Row) → quote_out_cause m rows ≡ None → 1 ≤ m
 quote-out-low m rows h = leb-true 1 m (and_parts (leb 1 m) (leb m 16) (not-false (maker_numbered m) (past-cause (not (maker_numbered m)) _ _ h).0)).0

@@ -11,17 +11,23 @@ use Rattle.interest.specs.Bounds.{priced}
 use Rattle.interest.specs.Sides.{same_side}
 use Rattle.book.specs.declared.row.Row.{Row}
 use Rattle.book.specs.Rows.{bounded_limit, sound_row, every, held, sound_table}
-use Rattle.book.specs.Ranks.{of_side, routable_class, can_route, takes_price, total_of, interest_at, routable_at, rank, rank_of, below, at_rank, ranks_at}
+use Rattle.book.specs.Ranks.{of_side, routable_class, can_route, takes_price, through_price, total_of, interest_at, routable_at, interest_through, routable_through, rank, rank_of, below, at_rank, ranks_at}
 use Rattle.book.proofs.RewriteFacts.{row-sound, table-rows}
 
 pub bounds : (p : ℕ) → priced p ≡ true → (1 ≤ p) × (p ≤ 100000)
 bounds p h = let q = and_parts (leb 1 p) (leb p 100000) h in (leb-true 1 p q.0, leb-true p 100000 q.1)
 
--- the limits that take a price are those of a rank below `ranks_at`
+-- the limits that take a price are those of a rank below `ranks_at`; those through it, of a rank below its own
 pub takes-rank : (side : Side) (p : ℕ) (l : Limit) → priced p ≡ true → bounded_limit l ≡ true → takes_price side p l ≡ ltb (rank side l) (ranks_at side p)
 takes-rank side p Market hp hl = sym (grind (arith, nat_tests))
 takes-rank Buy p (At x) hp hl = let b = bounds p hp in let d = bounds x hl in grind (arith, nat_tests)
 takes-rank Sell p (At x) hp hl = let b = bounds p hp in let d = bounds x hl in grind (arith, nat_tests)
+
+pub through-rank : (side : Side) (p : ℕ) (l : Limit) → priced p ≡ true → bounded_limit l ≡ true → through_price side p l ≡ ltb (rank side l) (rank side (At p))
+through-rank Buy p Market hp hl = let b = bounds p hp in sym (grind (arith, nat_tests))
+through-rank Sell p Market hp hl = let b = bounds p hp in sym (grind (arith, nat_tests))
+through-rank Buy p (At x) hp hl = let b = bounds p hp in let d = bounds x hl in grind (arith, nat_tests)
+through-rank Sell p (At x) hp hl = let b = bounds p hp in let d = bounds x hl in grind (arith, nat_tests)
 
 pub rank-top : (side : Side) (l : Limit) → bounded_limit l ≡ true → rank side l ≤ 100000
 rank-top side Market hl = omega arith
@@ -45,10 +51,18 @@ and-swap false false c = refl
 pub takes-below : (side : Side) (p : ℕ) (r : Row) → priced p ≡ true → sound_row r ≡ true → (of_side side r && takes_price side p r.limit) ≡ (of_side side r && ltb (rank_of r) (ranks_at side p))
 takes-below side p r hp hr = ap (λ (b : Bool). of_side side r && b) (takes-rank side p r.limit hp (row-sound r hr).3) ∙ side-rank r.side side r.limit (ranks_at side p)
 
+pub through-below : (side : Side) (p : ℕ) (r : Row) → priced p ≡ true → sound_row r ≡ true → (of_side side r && through_price side p r.limit) ≡ (of_side side r && ltb (rank_of r) (rank side (At p)))
+through-below side p r hp hr = ap (λ (b : Bool). of_side side r && b) (through-rank side p r.limit hp (row-sound r hr).3) ∙ side-rank r.side side r.limit (rank side (At p))
+
 pub routable-takes-below : (side : Side) (p : ℕ) (r : Row) → priced p ≡ true → sound_row r ≡ true → (can_route side r && takes_price side p r.limit) ≡ (can_route side r && ltb (rank_of r) (ranks_at side p))
 routable-takes-below side p r hp hr =
     let c = routable_class r.class in
     and-swap (of_side side r) c (takes_price side p r.limit) ∙ ap (λ (b : Bool). c && b) (takes-below side p r hp hr) ∙ sym (and-swap (of_side side r) c (ltb (rank_of r) (ranks_at side p)))
+
+pub routable-through-below : (side : Side) (p : ℕ) (r : Row) → priced p ≡ true → sound_row r ≡ true → (can_route side r && through_price side p r.limit) ≡ (can_route side r && ltb (rank_of r) (rank side (At p)))
+routable-through-below side p r hp hr =
+    let c = routable_class r.class in
+    and-swap (of_side side r) c (through_price side p r.limit) ∙ ap (λ (b : Bool). c && b) (through-below side p r hp hr) ∙ sym (and-swap (of_side side r) c (ltb (rank_of r) (rank side (At p))))
 
 -- sums over tests that agree on sound rows
 pub total-by : (f : Row → ℕ) (test test₂ : Row → Bool) → ((r : Row) → sound_row r ≡ true → test r ≡ test₂ r) → (rows : List Row) → every sound_row rows ≡ true → total_of f test rows ≡ total_of f test₂ rows
@@ -64,6 +78,12 @@ module _ (side : Side) (p : ℕ) (rows : List Row) (hp : priced p ≡ true) (h :
 
   pub routable-below : routable_at side p rows ≡ below (can_route side) (ranks_at side p) rows
   routable-below = total-by (λ (r : Row). r.left) (λ r. can_route side r && takes_price side p r.limit) (λ r. can_route side r && ltb (rank_of r) (ranks_at side p)) (λ r s. routable-takes-below side p r hp s) rows (table-rows rows h)
+
+  pub interest-through-below : interest_through side p rows ≡ below (of_side side) (rank side (At p)) rows
+  interest-through-below = total-by (λ (r : Row). r.left) (λ r. of_side side r && through_price side p r.limit) (λ r. of_side side r && ltb (rank_of r) (rank side (At p))) (λ r s. through-below side p r hp s) rows (table-rows rows h)
+
+  pub routable-through-below-all : routable_through side p rows ≡ below (can_route side) (rank side (At p)) rows
+  routable-through-below-all = total-by (λ (r : Row). r.left) (λ r. can_route side r && through_price side p r.limit) (λ r. can_route side r && ltb (rank_of r) (rank side (At p))) (λ r s. routable-through-below side p r hp s) rows (table-rows rows h)
 
 -- one level more
 split-here : (b : Bool) (k n x : ℕ) → cond (b && ltb k (n + 1)) x 0 ≡ cond (b && ltb k n) x 0 + cond (b && eqb k n) x 0

@@ -15,10 +15,10 @@ use Rattle.interest.specs.Bounds.{sized, maker_numbered}
 use Rattle.book.specs.declared.row.Owner.{Owner}
 use Rattle.book.specs.declared.row.Owner.TheVariants.{Order, Quote}
 use Rattle.book.specs.declared.row.Row.{Row}
-use Rattle.book.specs.Rows.{held, bounded_limit, sound_owner, sound_row, sound_table, is_quote_of, order_owned}
+use Rattle.book.specs.Rows.{held, bounded_limit, sound_owner, sound_row, sound_table, place, is_quote_of, order_owned, order_count}
 use Rattle.book.specs.Ranks.{of_side, through_price}
 use Rattle.book.specs.Reads.{first, stands, quoting, quoted_on, price_of, quote_price, better, best_quote, limited_at, BestQuote}
-use Rattle.book.proofs.SoundFacts.{sound-owner, sound-opened}
+use Rattle.book.proofs.SoundFacts.{sound-owner, sound-opened, orders-first}
 
 -- the first row that passes a test
 
@@ -73,6 +73,11 @@ first-kept test keep sub (r ∷ rs) =
 pub sum_same : (f g : Row → ℕ) (rows : List Row) → AllByRecursion (λ r. f r ≡ g r) rows → sum_by f rows ≡ sum_by g rows
 sum_same f g [] h = refl
 sum_same f g (r ∷ rs) h = omega (arith, sum_by-cons f r rs, sum_by-cons g r rs, h.0, sum_same f g rs h.1)
+
+pub orders-counted : (rows : List Row) → sound_table rows ≡ true → count_by (λ (r : Row). leb (place r) 0) rows ≡ order_count rows
+orders-counted rows h =
+    sym (sum_same (λ (r : Row). cond (order_owned r.owner) 1 0) (λ (r : Row). cond (leb (place r) 0) 1 0) rows
+    (All-weaker (λ (r : Row). order_owned r.owner ≡ leb (place r) 0) (λ (r : Row). cond (order_owned r.owner) 1 0 ≡ cond (leb (place r) 0) 1 0) (λ r e. ap (λ (b : Bool). cond {A = ℕ} b 1 0) e) rows (orders-first rows (sound-opened rows h).each)))
 
 -- makers that quote
 

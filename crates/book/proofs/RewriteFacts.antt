@@ -187,6 +187,11 @@ pub passed-step : (G : List Row → List Row) (at : ℕ) (rows : List Row) (d : 
 passed-step G at rows d lt =
     ap (λ (xs : List Row). xs ++ G (drop (at + 1) rows)) (take_more rows at d lt) ∙ append_assoc (take at rows) (get_or rows at d ∷ []) (G (drop (at + 1) rows))
 
+-- the end of a pass
+pub pass-end : (G : List Row → List Row) (at : ℕ) (rows : List Row) → G [] ≡ [] → length rows ≤ at → take at rows ++ G (drop at rows) ≡ rows
+pass-end G at rows none le =
+    ap (λ (xs : List Row). xs ++ G (drop at rows)) (take_all at rows le) ∙ ap (λ (xs : List Row). rows ++ G xs) (drop_all at rows le) ∙ ap (λ (xs : List Row). rows ++ xs) none ∙ append-nil rows
+
 -- a pass that changes each row by itself
 pub map-step : (f change : Row → Row) (at : ℕ) (rows : List Row) (d : Row) → at < length rows → change (get_or rows at d) ≡ f (get_or rows at d)
     → take (at + 1) (changed_at at change rows) ++ map f (drop (at + 1) (changed_at at change rows)) ≡ take at rows ++ map f (drop at rows)

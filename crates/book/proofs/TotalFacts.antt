@@ -1,5 +1,5 @@
 -- The totals of one side: each contract is in one of four places, and one row more.
-use Rattle.std.proofs.Common.{◌≡◌, ℕ, zero, suc, ◌+◌, ◌<◌, ◌≤◌, Bool, true, false, cond, List, [], ◌∷◌, length, get_or, take, sym, refl, ap, ◌∙◌, arith}
+use Rattle.std.proofs.Common.{◌≡◌, ℕ, zero, suc, ◌+◌, ◌*◌, ◌<◌, ◌≤◌, Bool, true, false, cond, List, [], ◌∷◌, length, get_or, take, sym, refl, ap, ◌∙◌, arith}
 use Rattle.std.proofs.lemmas.Bool.{and_parts, and_from, cond-true, cond-false}
 use Rattle.std.proofs.lemmas.List.{length-take}
 use Rattle.std.specs.List.{AllByRecursion}
@@ -30,12 +30,15 @@ total-held test (r ∷ rs) h =
 sizes-small : (test : Row → Bool) (rows : List Row) → every sound_row rows ≡ true → AllByRecursion (λ (r : Row). cond (test r) r.size 0 ≤ 1000000) rows
 sizes-small test rows h = All-weaker (λ (r : Row). sound_row r ≡ true) (λ (r : Row). cond (test r) r.size 0 ≤ 1000000) (λ r k. size-le (test r) r.size 1000000 (row-sound r k).2) rows (every-all sound_row rows h)
 
-every-front : (test : Row → Bool) (n : ℕ) (rows : List Row) → every test rows ≡ true → every test (take n rows) ≡ true
-every-front test zero rows h = refl
-every-front test (suc n) [] h = refl
-every-front test (suc n) (r ∷ rs) h =
+pub total-small : (test : Row → Bool) (rows : List Row) → every sound_row rows ≡ true → total_of (λ (r : Row). r.size) test rows ≤ length rows * 1000000
+total-small test rows h = sum_by_le (λ (r : Row). cond (test r) r.size 0) 1000000 rows (sizes-small test rows h)
+
+pub every_take : (test : Row → Bool) (n : ℕ) (rows : List Row) → every test rows ≡ true → every test (take n rows) ≡ true
+every_take test zero rows h = refl
+every_take test (suc n) [] h = refl
+every_take test (suc n) (r ∷ rs) h =
     let p = and_parts (test r) (every test rs) h in
-    and_from (test r) (every test (take n rs)) p.0 (every-front test n rs p.1)
+    and_from (test r) (every test (take n rs)) p.0 (every_take test n rs p.1)
 
 abbrev totals_by : ℕ → ℕ → ℕ → ℕ → ℕ → Totals
 totals_by a b c d e = record { accepted = a; traded = b; routed = c; cancelled = d; left = e }
@@ -68,11 +71,11 @@ module _ (side : Side) (rows : List Row) (i : ℕ) (d : Row) (lt : i < length ro
     pub totals-fit : (t.accepted + (get_or rows i d).size ≤ 128000000) × (t.traded + (get_or rows i d).traded ≤ 128000000) × (t.routed + (get_or rows i d).routed ≤ 128000000) × (t.cancelled + (get_or rows i d).cancelled ≤ 128000000) × (t.left + (get_or rows i d).left ≤ 128000000)
     totals-fit =
         let front = take (i + 1) rows in
-        let good = every-front sound_row (i + 1) rows sound in
+        let good = every_take sound_row (i + 1) rows sound in
         let more : plus_row t (get_or rows i d) ≡ totals_of side front = totals-yes t h e in
         let len : length front ≤ 128 = omega (arith, length-take (i + 1) rows) in
         let held_in = total-held (of_side side) front good in
-        let small = sum_by_le (λ (r : Row). cond (of_side side r) r.size 0) 1000000 front (sizes-small (of_side side) front good) in
+        let small = total-small (of_side side) front good in
         let a = ap (λ (u : Totals). u.accepted) more in
         let b = ap (λ (u : Totals). u.traded) more in
         let c = ap (λ (u : Totals). u.routed) more in

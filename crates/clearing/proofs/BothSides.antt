@@ -127,6 +127,10 @@ pub counts-both : (f g k : Side → ℕ → ℕ) (r₁ r₂ : ℕ) (start mid en
 counts-both f g k r₁ r₂ start mid end eb es sb ss t₁ y₁ t₂ y₂ side q =
     elim side as (λ s. k s q ≡ counts_left f start end s q) [ Buy ↦ omega (arith, t₂ q, y₁ q, es, ss) | Sell ↦ omega (arith, y₂ q, t₁ q, eb, sb) ]
 
+-- one after the other
+pub counts-then : (f : Side → ℕ → ℕ) (a b c : List Row) → ((s : Side) → routed_on s a ≤ routed_on s b) → ((s : Side) → routed_on s b ≤ routed_on s c) → (side : Side) (q : ℕ) → counts_left (counts_left f a b) b c side q ≡ counts_left f a c side q
+counts-then f a b c up up₂ side q = omega (arith, up (opposite side), up₂ (opposite side))
+
 -- the same rows are sent where the same is shown
 pub sent-same : (f g : Side → ℕ → ℕ) (ask ask₂ : Side → ℕ) (p : ℕ) (rows : List Row) → ((s : Side) → count_at (f (opposite s)) (ask s) ≡ count_at (g (opposite s)) (ask₂ s)) → sent_at f ask p rows ≡ sent_at g ask₂ p rows
 sent-same f g ask ask₂ p rows e =

@@ -121,3 +121,8 @@ least_at P p o e t =
 pub greatest-at : (P : ℕ → Bool) (p : ℕ) (o : Option ℕ) → o ≡ greatest_at_or_below P p → priced p ≡ true → Greatest P p o
 greatest-at P p o e t =
     let h = priced-tells p t in subst (λ (x : Option ℕ). Greatest P p x) (sym e) (greatest-tells P p h.0 h.1)
+
+-- where the highest price is permitted, some price at or above a price is
+pub least-some : (P : ℕ → Bool) (p : ℕ) → P 100000 ≡ true → p ≤ 100000 → (o : Option ℕ) → Least P p o → (q : ℕ) × (o ≡ Some q)
+least-some P p t h None u = absurd (both_ways (P 100000) (u 100000 h (omega arith)) t)
+least-some P p t h (Some q) u = (q, refl)

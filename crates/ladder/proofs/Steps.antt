@@ -1,5 +1,5 @@
 -- What the two ladders answer.
-use Rattle.std.proofs.Common.{◌≡◌, ℕ, ◌*◌, ◌/◌, ◌%◌, ◌<◌, ◌≤◌, Bool, true, false, cond, ltb, Some, None, Option, ◌∙◌, arith}
+use Rattle.std.proofs.Common.{◌≡◌, ℕ, ◌+◌, ◌*◌, ◌/◌, ◌%◌, ◌<◌, ◌≤◌, Bool, true, false, cond, ltb, Some, None, Option, ap, ◌∙◌, arith}
 use Rattle.std.proofs.lemmas.Bool.Decides.{nat_tests}
 use Rattle.std.proofs.lemmas.Bool.{cond_both, ltb-true, ltb-false}
 use Rattle.std.specs.Int.{next_multiple_of}
@@ -28,7 +28,7 @@ pub itself-greatest : (p : ℕ) → cond (priced p) (Some p) None ≡ greatest_a
 itself-greatest p =
     cond_both (priced p) (Some p) None (λ (o : Option ℕ). o ≡ greatest_at_or_below priced p) (λ e. here-greatest priced p e e) (λ e. greatest-out priced p e)
 
-low_step : (p : ℕ) → priced p ≡ true → p < 300 → stepped p ≡ true
+pub low_step : (p : ℕ) → priced p ≡ true → p < 300 → stepped p ≡ true
 low_step p e h = grind (arith, nat_tests)
 
 high-step : (p : ℕ) → 300 ≤ p → p ≤ 100000 → p % 5 ≡ 0 → stepped p ≡ true
@@ -37,17 +37,17 @@ high-step p l h e = grind (arith, nat_tests)
 no_step : (p : ℕ) → 300 ≤ p → p ≤ 100000 → (p % 5 ≡ 0 → ⊥) → stepped p ≡ false
 no_step p l h e = grind (arith, nat_tests)
 
-step-least : (p : ℕ) → priced p ≡ true → 300 ≤ p → Some (next_multiple_of p 5) ≡ least_at_or_above stepped p
+pub step-least : (p : ℕ) → priced p ≡ true → 300 ≤ p → Some ((p + 4) / 5 * 5) ≡ least_at_or_above stepped p
 step-least p e l =
     let h = priced-tells p e in
-    least-is stepped p (Some (next_multiple_of p 5)) h.0 h.1 (
+    least-is stepped p (Some ((p + 4) / 5 * 5)) h.0 h.1 (
       omega arith,
       omega arith,
-      high-step (next_multiple_of p 5) (omega arith) (omega arith) (omega arith),
+      high-step ((p + 4) / 5 * 5) (omega arith) (omega arith) (omega arith),
       λ j m n. no_step j (omega arith) (omega arith) (λ z. omega arith),
     )
 
-step-greatest : (p : ℕ) → priced p ≡ true → 300 ≤ p → Some (p / 5 * 5) ≡ greatest_at_or_below stepped p
+pub step-greatest : (p : ℕ) → priced p ≡ true → 300 ≤ p → Some (p / 5 * 5) ≡ greatest_at_or_below stepped p
 step-greatest p e l =
     let h = priced-tells p e in
     greatest-is stepped p (Some (p / 5 * 5)) h.0 h.1 (
@@ -63,7 +63,7 @@ stepped-least p o e =
     e ∙ cond_both (priced p) (Some p) None (λ (x : Option ℕ). option_map (λ q. cond (ltb q 300) q (next_multiple_of q 5)) x ≡ least_at_or_above stepped p)
     (λ t. cond_both (ltb p 300) p (next_multiple_of p 5) (λ (q : ℕ). Some q ≡ least_at_or_above stepped p)
     (λ l. here-least stepped p t (low_step p t (ltb-true p 300 l)))
-    (λ l. step-least p t (ltb-false p 300 l)))
+    (λ l. let e : next_multiple_of p 5 ≡ (p + 4) / 5 * 5 = omega arith in ap Some e ∙ step-least p t (ltb-false p 300 l)))
     (λ f. least-out stepped p f)
 
 -- below 300 the price itself, from there the multiple of 5 before it

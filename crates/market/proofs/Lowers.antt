@@ -1,5 +1,5 @@
 -- What a send leaves of each level.
-use Rattle.std.proofs.Common.{◌≡◌, ℕ, suc, ◌+◌, ◌-◌, ◌<◌, ◌≤◌, min, true, false, ltb, List, length, get_or, take, drop, set, Some, sym, ap, ◌∙◌, subst, inl, inr, arith}
+use Rattle.std.proofs.Common.{◌≡◌, ℕ, suc, ◌+◌, ◌-◌, ◌<◌, ◌≤◌, min, true, false, ltb, List, length, get_or, take, drop, set, Some, sym, refl, ap, ◌∙◌, subst, inl, inr, arith}
 use Rattle.std.proofs.lemmas.Bool.Decides.{nat_tests}
 use Rattle.std.proofs.lemmas.Bool.{cond-true, cond-false, cases_Bool, cases_eq, and_parts, true≢false}
 use Rattle.std.proofs.lemmas.List.{get_or-set_same, get_or-set_other, length-set, take_all, drop_all}
@@ -29,6 +29,10 @@ level-eq a b s p n =
     ap (λ (x : Side). record { side = x; price = a.price; size = a.size }) s
     ∙ ap (λ (x : ℕ). record { side = b.side; price = x; size = a.size }) p
     ∙ ap (λ (x : ℕ). record { side = b.side; price = b.price; size = x }) n
+
+-- where nothing has been taken
+pub not-lowered : (d : Side) (ls : List DepthLevel) → Lowered d ls ls
+not-lowered d ls = (refl, λ i. (level-eq (get_or ls i blank) (lowered (get_or ls i blank) ((get_or ls i blank).size - (get_or ls i blank).size)) refl refl (omega arith), omega arith, λ _. refl))
 
 -- taking from a level that stands
 less-more : (d : Side) (a b : DepthLevel) (m : ℕ) → level_stands d b ≡ true → Less d a b → Less d a (lowered b m)

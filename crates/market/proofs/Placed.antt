@@ -174,7 +174,7 @@ none_ahead d ls k u =
     ])
 
 -- so its price is the best
-some-best-of : (d : Side) (ls : List DepthLevel) (k : ℕ) → Foremost d ls (length ls) (Some k) → Some (get_or ls k blank).price ≡ best_of d (levels_show d ls)
+pub some-best-of : (d : Side) (ls : List DepthLevel) (k : ℕ) → Foremost d ls (length ls) (Some k) → Some (get_or ls k blank).price ≡ best_of d (levels_show d ls)
 some-best-of d ls k u =
     let l = get_or ls k blank in
     let h = bounds l.price l.size (and_parts (same_side d l.side) (in_bounds l.price l.size) u.1).1 in

@@ -187,11 +187,11 @@ module _ (permitted : ℕ → Bool) (o : Opening) (low high : ℕ) (close : Opti
   pub told-best : Worsens o.shown → Within permitted → (r : Option ℕ) → r ≡ price_of permitted o low (suc high - low) close → Chosen permitted o low high (option_map (choice_at o) r)
   told-best w within r e = subst (λ x. Chosen permitted o low high (option_map (choice_at o) x)) (sym e) (price-chosen w within)
 
-  best-priced : Within permitted → (r : Option ℕ) → Chosen permitted o low high (option_map (choice_at o) r) → IfSome r (λ p. priced p ≡ true)
+  pub best-priced : Within permitted → (r : Option ℕ) → Chosen permitted o low high (option_map (choice_at o) r) → IfSome r (λ p. priced p ≡ true)
   best-priced within None h = tt
   best-priced within (Some p) h = let bounds = within p h.on_ladder in priced-from p bounds.0 bounds.1
 
-  best-crosses : (r : Option ℕ) → Chosen permitted o low high (option_map (choice_at o) r) → o.mode ≡ Exchange → CrossesMost o.rows (option_map (choice_at o) r)
+  pub best-crosses : (r : Option ℕ) → Chosen permitted o low high (option_map (choice_at o) r) → o.mode ≡ Exchange → CrossesMost o.rows (option_map (choice_at o) r)
   best-crosses None h e = tt
   best-crosses (Some p) h e = choice-crosses o p e h.usable
 

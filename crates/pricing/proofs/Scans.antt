@@ -82,6 +82,21 @@ highest-found t low (suc n) p e = go (only t (low + n)) refl (highest-found t lo
     go (Some x) eo ih = here t low n p (eo ∙ (sym (ap (λ y. option_or y (highest t low n)) eo) ∙ e))
     go None eo ih = wider (ih (sym (ap (λ y. option_or y (highest t low n)) eo) ∙ e))
 
+-- nothing below the lowest, or above the highest, passes
+pub lowest-is : (t : ℕ → Bool) (low n p : ℕ) → Passes t low n p → ((k : ℕ) → low ≤ k → k < p → t k ≡ false) → lowest t low n ≡ Some p
+lowest-is t low zero p h l = absurd (omega (arith, h.from, h.below))
+lowest-is t low (suc n) p h l = elim (cases_eq p (low + n)) [
+  | inl e ↦ ap₂ option_or (lowest-none t low n (λ k b. l (low + k) (omega arith) (omega arith))) (only-true t (low + n) (rw (← e) h.test) ∙ ap Some (sym e))
+  | inr ne ↦ ap (λ y. option_or y (only t (low + n))) (lowest-is t low n p (record { from = h.from; below = omega (arith, h.below); test = h.test }) l)
+]
+
+pub highest-is : (t : ℕ → Bool) (low n p : ℕ) → Passes t low n p → ((k : ℕ) → p < k → k < low + n → t k ≡ false) → highest t low n ≡ Some p
+highest-is t low zero p h l = absurd (omega (arith, h.from, h.below))
+highest-is t low (suc n) p h l = elim (cases_eq p (low + n)) [
+  | inl e ↦ ap (λ y. option_or y (highest t low n)) (only-true t (low + n) (rw (← e) h.test) ∙ ap Some (sym e))
+  | inr ne ↦ ap₂ option_or (only-false t (low + n) (l (low + n) (omega (arith, h.below)) (omega arith))) (highest-is t low n p (record { from = h.from; below = omega (arith, h.below); test = h.test }) (λ k a b. l k a (omega arith)))
+]
+
 -- what passes is at or above the lowest
 lowest-has : (t : ℕ → Bool) (low n p : ℕ) → Passes t low n p → (a : ℕ) × (lowest t low n ≡ Some a) × (a ≤ p)
 lowest-has t low zero p h = absurd (omega (arith, h.from, h.below))

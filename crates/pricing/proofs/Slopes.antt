@@ -141,10 +141,10 @@ edge-shown : (f : ℕ → ℕ) (p n : ℕ) (x : Bool) → priced p ≡ x → (x 
 edge-shown f p n true e h = cond-true (priced p) _ _ e
 edge-shown f p n false e h = cond-false (priced p) _ _ e ∙ sym (omega (arith, h refl))
 
-offers-counted : (f : ℕ → ℕ) (p n : ℕ) → priced p ≡ true → f (beyond Sell) ≡ 0 → counted f (p - 1) n ≡ min n (f (p - 1))
+pub offers-counted : (f : ℕ → ℕ) (p n : ℕ) → priced p ≡ true → f (beyond Sell) ≡ 0 → counted f (p - 1) n ≡ min n (f (p - 1))
 offers-counted f p n e h = edge-shown f (p - 1) n (priced (p - 1)) refl (λ out. let z : p - 1 ≡ 0 = grind (arith, nat_tests) in ap f z ∙ h)
 
-bids-counted : (f : ℕ → ℕ) (p n : ℕ) → priced p ≡ true → f (beyond Buy) ≡ 0 → counted f (p + 1) n ≡ min n (f (p + 1))
+pub bids-counted : (f : ℕ → ℕ) (p n : ℕ) → priced p ≡ true → f (beyond Buy) ≡ 0 → counted f (p + 1) n ≡ min n (f (p + 1))
 bids-counted f p n e h = edge-shown f (p + 1) n (priced (p + 1)) refl (λ out. let z : p + 1 ≡ 100001 = grind (arith, nat_tests) in ap f z ∙ h)
 
 -- a count that stops at a number above the routable contracts decides as the count itself

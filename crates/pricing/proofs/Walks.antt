@@ -137,13 +137,13 @@ module _ (permitted : ℕ → Bool) (o : Opening) (low n : ℕ) (t : Tally) (h :
           seen-join t (h.tops (omega (arith, same, pos))) (busy eu ∙ sym same) (omega arith)
 
 -- the walk passes prices that are not permitted
-seen-to : (permitted : ℕ → Bool) (o : Opening) (low n m : ℕ) (t : Tally) → Seen permitted o low n t → n ≤ m → ((k : ℕ) → low + n ≤ k → k < low + m → permitted k ≡ false) → Seen permitted o low m t
+pub seen-to : (permitted : ℕ → Bool) (o : Opening) (low n m : ℕ) (t : Tally) → Seen permitted o low n t → n ≤ m → ((k : ℕ) → low + n ≤ k → k < low + m → permitted k ≡ false) → Seen permitted o low m t
 seen-to permitted o low n m t h l no-rung =
     let e : n + (m - n) ≡ m = omega arith in
     subst (λ x. Seen permitted o low x t) e (seen_skip permitted o low n t h (m - n) (λ k x y. no-rung (low + k) (omega arith) (omega arith)))
 
 -- and takes a permitted one
-seen-take : (permitted : ℕ → Bool) (o : Opening) (low p : ℕ) (t : Tally) → Seen permitted o low (p - low) t → low ≤ p → permitted p ≡ true → Seen permitted o low ((p + 1) - low) (stepped t p (figures_at o p))
+pub seen-take : (permitted : ℕ → Bool) (o : Opening) (low p : ℕ) (t : Tally) → Seen permitted o low (p - low) t → low ≤ p → permitted p ≡ true → Seen permitted o low ((p + 1) - low) (stepped t p (figures_at o p))
 seen-take permitted o low p t h a rung =
     let e : low + (p - low) ≡ p = omega arith in
     let k : suc (p - low) ≡ (p + 1) - low = omega arith in
@@ -156,6 +156,15 @@ Within permitted = (p : ℕ) → permitted p ≡ true → (1 ≤ p) × (p ≤ 10
 
 out : (permitted : ℕ → Bool) → Within permitted → (k : ℕ) → ((1 ≤ k) × (k ≤ 100000) → ⊥) → permitted k ≡ false
 out permitted w k h = elim (cases_Bool (permitted k)) [ inl y ↦ absurd (h (w k y)) | inr n ↦ n ]
+
+-- the walk begins at a price
+pub seen_start : (permitted : ℕ → Bool) (o : Opening) (low at : ℕ) → Within permitted → at ≡ max low 1 → Seen permitted o low (at - low) (fresh 0)
+seen_start permitted o low at w e =
+    seen-to permitted o low 0 (at - low) (fresh 0) (seen_none permitted o low) (omega arith) (λ k a l. out permitted w k (λ b. omega (arith, b.0, b.1)))
+
+-- and may end at the highest one
+pub seen_end : (permitted : ℕ → Bool) (o : Opening) (low high at : ℕ) (t : Tally) → Within permitted → Seen permitted o low (at - low) t → low ≤ at → at - low ≤ suc high - low → min high 100000 < at → Seen permitted o low (suc high - low) t
+seen_end permitted o low high at t w h a l top = seen-to permitted o low (at - low) (suc high - low) t h l (λ k x y. out permitted w k (λ b. omega (arith, b.0, b.1)))
 
 -- the walk is at a price of the range, or just above: the tally has seen those below
 pub record Walked (permitted : ℕ → Bool) (o : Opening) (low high at top : ℕ) (t : Tally) : Type 0 where
@@ -170,7 +179,7 @@ module _ (permitted : ℕ → Bool) (o : Opening) (low high : ℕ) where
     from = omega arith;
     to = omega arith;
     ends = refl;
-    seen = seen-to permitted o low 0 (max low 1 - low) (fresh 0) (seen_none permitted o low) (omega arith) (λ k a l. out permitted w k (λ b. omega (arith, b.0, b.1)));
+    seen = seen_start permitted o low (max low 1) w refl;
   }
 
   pub walk-steps : (at top p after : ℕ) (t : Tally) → Walked permitted o low high at top t → Steps permitted at top (Some p) after → Walked permitted o low high after top (stepped t p (figures_at o p))
